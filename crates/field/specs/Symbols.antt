@@ -1,0 +1,46 @@
+-- Symbols of GF(4), GF(16) and GF(256): 01, 'Fields and arrays'. The degree d is 2, 4 or 8.
+--
+--   IsSymbol d a     a is a symbol of the field of degree d
+--   plus a b         the sum
+--   modulus d        the reducing polynomial, bit i for x^i: the one place where the three stand
+--   timesX d c       x times c
+--   times d a b      the product
+--   over d a b       the quotient
+use Prim.Native.Nat.{ℕ, zero, suc, _+_, _-_, _*_, _/_, _%_, _^_, _<_}
+use mathlib.Core.Bool.{Bool, cond}
+use lib.Bits.{bitXor}
+use lib.Dec.{eqb}
+
+-- 'A symbol is one byte'; of a field of degree d, one of 2 ^ d.
+abbrev pub IsSymbol : ℕ → ℕ → Type 0
+IsSymbol d a = a < 2 ^ d
+
+-- 'Addition is exclusive or'
+unfoldable pub plus : ℕ → ℕ → ℕ
+plus a b = bitXor a b
+
+-- 'degree 2: x^2+x+1; 4: x^4+x+1; 8: x^8+x^4+x^3+x^2+1'
+unfoldable pub modulus : ℕ → ℕ
+modulus d = cond (eqb d 2) 0b111 (cond (eqb d 4) 0b10011 0b100011101)
+
+-- x times c: the bits move up, and where x^d appears the polynomial is taken off
+unfoldable pub timesX : ℕ → ℕ → ℕ
+timesX d c = plus (c * 2) (c / 2 ^ (d - 1) % 2 * modulus d)
+
+-- the product of the n low bits of a and b, a being a₀ + x·a′: a₀·b + x·(a′·b)
+unfoldable pub timesLow : ℕ → ℕ → ℕ → ℕ → ℕ
+timesLow d zero a b = 0
+timesLow d (suc n) a b = plus (a % 2 * b) (timesX d (timesLow d n (a / 2) b))
+
+-- 'multiplication is of polynomials over GF(2), bit i for x^i, reduced by' the polynomial. Only the d low bits of a and b count.
+unfoldable pub times : ℕ → ℕ → ℕ → ℕ
+times d a b = timesLow d d a (b % 2 ^ d)
+
+-- the largest c below n with c·b = a, or 0 where there is none
+unfoldable pub quotientBelow : ℕ → ℕ → ℕ → ℕ → ℕ
+quotientBelow zero d a b = 0
+quotientBelow (suc n) d a b = cond (eqb (times d n b) a) n (quotientBelow n d a b)
+
+-- 'The quotient of anything by zero is given as 0.' Otherwise it is the one symbol c with c·b = a.
+unfoldable pub over : ℕ → ℕ → ℕ → ℕ
+over d a b = cond (eqb b 0) 0 (quotientBelow (2 ^ d) d a b)

@@ -1,0 +1,1 @@
+// Symbols of GF(4), GF(16) and GF(256).

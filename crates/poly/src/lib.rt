@@ -1,0 +1,1 @@
+// Polynomials over a field, as lists of coefficients.
