@@ -1,1 +1,5 @@
 pub mod Laws
+pub mod Sums
+pub mod Products
+pub mod Powers
+pub mod Instance

@@ -1,1 +1,2 @@
 // Symbols of GF(4), GF(16) and GF(256).
+pub mod tables;

@@ -1,0 +1,177 @@
+-- Every nonzero symbol is a power of x, and the powers come round after 2 ^ d − 1: from this the inverses, and the tables.
+--
+--   Generated d         the tests of that, which antt computes
+--   power-add           x^i · x^j = x^(i + j)
+--   power-round         x^(i + 2 ^ d − 1) = x^i
+--   exponent d b        the exponent of a nonzero symbol; power-exponent: x to it is b; exponent-below
+--   over-times          division undoes the product
+--   over-unique         nothing else does
+--   no-zero-divisors    a product is zero only if a factor is
+-- Assumes nothing.
+use mathlib.Core.Path.{_≡_, refl, sym, ap, ap₂, _∙_, subst}
+use mathlib.Core.Logic.{_⊎_, inl, inr}
+use mathlib.Core.Bool.{Bool, true, false, cond, _&&_, _||_}
+use mathlib.Core.List.{List, [], _∷_, _++_}
+use Prim.Native.Nat.{ℕ, zero, suc, _+_, _-_, _*_, _/_, _%_, _^_, _≤_, _<_}
+use native.Mathlib.Nat.{suc-add, add-suc, zero-add, add-zero, sub-add-cancel, le-of-lt}
+use native.Mathlib.Omega.{arith}
+use native.Mathlib.Decide.{ℕ-discrete}
+use lib.Dec.{T, eqb, ltb, eqb→eq, ltb→lt}
+use lib.ListN.{length, getD}
+use lib.Pow.{pow-pos}
+use borrow.Author.Tests.{eq-eqb, ne-eqb}
+use Rattle.field.specs.Symbols.{plus, timesX, times, quotientBelow, over}
+use Rattle.field.specs.Tables.{power, powers, placeOf}
+use Rattle.field.proofs.Products.{Tested, times-comm, times-assoc, times-below, one-times, x-times, zero-times, allBelow, below}
+
+-- b is 0 or stands at its place in p
+abbrev stands : List ℕ → ℕ → Bool
+stands p b = eqb b 0 || eqb (getD p (placeOf b p) 0) b && ltb (placeOf b p) (length p)
+
+abbrev standAll : ℕ → List ℕ → Bool
+standAll n p = allBelow n (stands p)
+
+pub record Generated (d : ℕ) : Type 0 where
+  pub tested : Tested d
+  pub two : T (ltb 1 (2 ^ d))
+  pub round : T (eqb (power d (2 ^ d - 1)) 1)
+  pub reach : T (standAll (2 ^ d) (powers d (2 ^ d - 1) 1))
+
+-- ---- one round of powers as a list
+
+pub length-powers : (d n c : ℕ) → length (powers d n c) ≡ n
+unfolding powers
+length-powers d zero c = refl
+length-powers d (suc n) c = ap suc (length-powers d n (timesX d c))
+
+powers-from : (d n j i : ℕ) → i < n → getD (powers d n (power d j)) i 0 ≡ power d (j + i)
+unfolding powers power
+powers-from d zero j i h = absurd (let z : i < 0 = h in omega arith)
+powers-from d (suc n) j zero h = ap (power d) (sym (add-zero j))
+powers-from d (suc n) j (suc i) h = powers-from d n (suc j) i (omega arith) ∙ ap (power d) (suc-add j i ∙ sym (add-suc j i))
+
+pub powers-at : (d n i : ℕ) → i < n → getD (powers d n 1) i 0 ≡ power d i
+unfolding power
+powers-at d n i h = powers-from d n 0 i h ∙ ap (power d) (zero-add i)
+
+-- the exponent of a nonzero symbol
+pub exponent : ℕ → ℕ → ℕ
+exponent d b = placeOf b (powers d (2 ^ d - 1) 1)
+
+-- ---- the search for a quotient
+
+module _ (d a b : ℕ) where
+  found-by : (n c : ℕ) → c < suc n → times d c b ≡ a → (c < n → times d (quotientBelow n d a b) b ≡ a)
+      → Dec (times d n b ≡ a) → times d (quotientBelow (suc n) d a b) b ≡ a
+  unfolding quotientBelow
+  found-by n c h e u (yes f) = rw (eq-eqb (times d n b) a f) f
+  found-by n c h e u (no f) = rw (ne-eqb (times d n b) a f) (u (smaller (ℕ-discrete c n)))
+    where
+      smaller : Dec (c ≡ n) → c < n
+      smaller (yes g) = absurd (f (ap (λ (x : ℕ). times d x b) (sym g) ∙ e))
+      smaller (no g) = omega arith
+
+  found : (n c : ℕ) → c < n → times d c b ≡ a → times d (quotientBelow n d a b) b ≡ a
+  found zero c h e = absurd (let z : c < 0 = h in omega arith)
+  found (suc n) c h e = found-by n c h e (λ k. found n c k e) (ℕ-discrete (times d n b) a)
+
+  within : (m n : ℕ) → 0 < m → n ≤ m → quotientBelow n d a b < m
+  unfolding quotientBelow
+  within m zero p h = p
+  within m (suc n) p h = go (eqb (times d n b) a) (within m n p (omega arith))
+    where
+      go : (t : Bool) → quotientBelow n d a b < m → cond t n (quotientBelow n d a b) < m
+      go true k = omega arith
+      go false k = k
+
+pub over-below : (d a b : ℕ) → over d a b < 2 ^ d
+unfolding over
+over-below d a b = go (eqb b 0)
+  where
+    go : (t : Bool) → cond t 0 (quotientBelow (2 ^ d) d a b) < 2 ^ d
+    go true = pow-pos d
+    go false = within d a b (2 ^ d) (2 ^ d) (pow-pos d) (omega arith)
+
+pub over-zero : (d a : ℕ) → over d a 0 ≡ 0
+unfolding over
+over-zero d a = refl
+
+-- ---- of a degree that passes the tests
+
+module _ (d : ℕ) (𝓖 : Generated d) where
+  one-below : 1 < 2 ^ d
+  one-below = ltb→lt 1 (2 ^ d) (𝓖 .two)
+
+  pub power-below : (i : ℕ) → power d i < 2 ^ d
+  unfolding power
+  power-below zero = one-below
+  power-below (suc i) = rw (x-times d (𝓖 .tested) (power d i) (power-below i)) (times-below d (𝓖 .tested) 2 (power d i))
+
+  pub power-add : (i j : ℕ) → times d (power d i) (power d j) ≡ power d (i + j)
+  unfolding power
+  power-add zero j = one-times d (𝓖 .tested) (power d j) (power-below j) ∙ ap (power d) (sym (zero-add j))
+  power-add (suc i) j =
+      ap (λ (x : ℕ). times d x (power d j)) (x-times d (𝓖 .tested) (power d i) (power-below i))
+      ∙ times-assoc d (𝓖 .tested) 2 (power d i) (power d j)
+      ∙ sym (x-times d (𝓖 .tested) (times d (power d i) (power d j)) (times-below d (𝓖 .tested) (power d i) (power d j)))
+      ∙ ap (timesX d) (power-add i j) ∙ ap (power d) (sym (suc-add i j))
+
+  pub power-round : (i : ℕ) → power d (i + (2 ^ d - 1)) ≡ power d i
+  power-round i =
+      sym (power-add i (2 ^ d - 1)) ∙ ap (times d (power d i)) (eqb→eq (power d (2 ^ d - 1)) 1 (𝓖 .round))
+      ∙ times-comm d (𝓖 .tested) (power d i) 1 ∙ one-times d (𝓖 .tested) (power d i) (power-below i)
+
+  stands-there : (b : ℕ) → b < 2 ^ d → (b ≡ 0 → ⊥) → (getD (powers d (2 ^ d - 1) 1) (exponent d b) 0 ≡ b) × (exponent d b < 2 ^ d - 1)
+  unfolding exponent
+  stands-there b h n =
+      go (below (2 ^ d) (stands (powers d (2 ^ d - 1) 1)) (𝓖 .reach) b h) (ne-eqb b 0 n)
+    where
+      p : List ℕ
+      p = powers d (2 ^ d - 1) 1
+      split : (s t : Bool) → T (s && t) → T s × T t
+      split true t k = (tt, k)
+      split false t k = absurd k
+      go : T (stands p b) → eqb b 0 ≡ false → (getD p (placeOf b p) 0 ≡ b) × (placeOf b p < 2 ^ d - 1)
+      go t e =
+          let both : T (eqb (getD p (placeOf b p) 0) b) × T (ltb (placeOf b p) (length p)) = split (eqb (getD p (placeOf b p) 0) b) (ltb (placeOf b p) (length p)) (rw e at t) in
+          (eqb→eq (getD p (placeOf b p) 0) b (both .0), rw (length-powers d (2 ^ d - 1) 1) at (ltb→lt (placeOf b p) (length p) (both .1)))
+
+  pub exponent-below : (b : ℕ) → b < 2 ^ d → (b ≡ 0 → ⊥) → exponent d b < 2 ^ d - 1
+  exponent-below b h n = stands-there b h n .1
+
+  pub power-exponent : (b : ℕ) → b < 2 ^ d → (b ≡ 0 → ⊥) → power d (exponent d b) ≡ b
+  power-exponent b h n = sym (powers-at d (2 ^ d - 1) (exponent d b) (exponent-below b h n)) ∙ stands-there b h n .0
+
+  -- a nonzero symbol has an inverse
+  inverse : (b : ℕ) → b < 2 ^ d → (b ≡ 0 → ⊥) → (c : ℕ) × (times d c b ≡ 1)
+  inverse b h n =
+      ( power d (2 ^ d - 1 - exponent d b)
+      , ap (times d (power d (2 ^ d - 1 - exponent d b))) (sym (power-exponent b h n))
+        ∙ power-add (2 ^ d - 1 - exponent d b) (exponent d b)
+        ∙ ap (power d) (sub-add-cancel (le-of-lt (exponent-below b h n)))
+        ∙ eqb→eq (power d (2 ^ d - 1)) 1 (𝓖 .round)
+      )
+
+  pub over-times : (a b : ℕ) → a < 2 ^ d → b < 2 ^ d → (b ≡ 0 → ⊥) → times d (over d a b) b ≡ a
+  unfolding over
+  over-times a b ha hb n =
+      let c : (c : ℕ) × (times d c b ≡ 1) = inverse b hb n in
+      rw (ne-eqb b 0 n)
+      (found d a b (2 ^ d) (times d a (c .0)) (times-below d (𝓖 .tested) a (c .0))
+        (times-assoc d (𝓖 .tested) a (c .0) b ∙ ap (times d a) (c .1) ∙ times-comm d (𝓖 .tested) a 1 ∙ one-times d (𝓖 .tested) a ha))
+
+  cancel : (a c b : ℕ) → a < 2 ^ d → c < 2 ^ d → b < 2 ^ d → (b ≡ 0 → ⊥) → times d a b ≡ times d c b → a ≡ c
+  cancel a c b ha hc hb n e =
+      let i : (i : ℕ) × (times d i b ≡ 1) = inverse b hb n in
+      let back : (x : ℕ) → x < 2 ^ d → times d (i .0) (times d x b) ≡ x =
+          λ x hx. ap (times d (i .0)) (times-comm d (𝓖 .tested) x b) ∙ sym (times-assoc d (𝓖 .tested) (i .0) b x)
+          ∙ ap (λ (y : ℕ). times d y x) (i .1) ∙ one-times d (𝓖 .tested) x hx in
+      sym (back a ha) ∙ ap (times d (i .0)) e ∙ back c hc
+
+  pub over-unique : (a b c : ℕ) → b < 2 ^ d → c < 2 ^ d → (b ≡ 0 → ⊥) → times d c b ≡ a → over d a b ≡ c
+  over-unique a b c hb hc n e =
+      cancel (over d a b) c b (over-below d a b) hc hb n
+      (over-times a b (subst (λ (x : ℕ). x < 2 ^ d) e (times-below d (𝓖 .tested) c b)) hb n ∙ sym e)
+
+  pub no-zero-divisors : (a b : ℕ) → a < 2 ^ d → b < 2 ^ d → times d a b ≡ 0 → (b ≡ 0 → ⊥) → a ≡ 0
+  no-zero-divisors a b ha hb e n = cancel a 0 b ha (pow-pos d) hb n (e ∙ sym (zero-times d (𝓖 .tested) b))

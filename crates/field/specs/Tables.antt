@@ -1,0 +1,41 @@
+-- The constant tables of the product routine, worked out from the polynomial.
+--
+--   power d i      x^i
+--   powers d n c   c, x·c, x²·c, …, n of them
+--   placeOf b p    the place of b in the list p, its length where b is not in it
+--   tableOf d      the exponent of each symbol as a power of x, then the powers x^0 to x^(2q − 3), q = 2 ^ d
+--   IsTable d l    l begins with the table of degree d
+use Prim.Native.Nat.{ℕ, zero, suc, _-_, _^_}
+use mathlib.Core.Path.{_≡_}
+use mathlib.Core.Bool.{Bool, cond}
+use mathlib.Core.List.{List, [], _∷_, _++_}
+use lib.Dec.{eqb}
+use lib.ListN.{length, take}
+use Rattle.field.specs.Symbols.{timesX}
+
+unfoldable pub power : ℕ → ℕ → ℕ
+power d zero = 1
+power d (suc i) = timesX d (power d i)
+
+unfoldable pub powers : ℕ → ℕ → ℕ → List ℕ
+powers d zero c = []
+powers d (suc n) c = c ∷ powers d n (timesX d c)
+
+unfoldable pub placeOf : ℕ → List ℕ → ℕ
+placeOf b [] = zero
+placeOf b (a ∷ p) = cond (eqb a b) zero (suc (placeOf b p))
+
+-- the places in p of n numbers from b on
+unfoldable pub placesFrom : ℕ → ℕ → List ℕ → List ℕ
+placesFrom b zero p = []
+placesFrom b (suc n) p = placeOf b p ∷ placesFrom (suc b) n p
+
+-- the table that is made of one round of powers
+unfoldable pub tableFrom : ℕ → List ℕ → List ℕ
+tableFrom q p = placesFrom 0 q p ++ (p ++ p)
+
+unfoldable pub tableOf : ℕ → List ℕ
+tableOf d = tableFrom (2 ^ d) (powers d (2 ^ d - 1) 1)
+
+unfoldable pub IsTable : ℕ → List ℕ → Type 0
+IsTable d l = take (length (tableOf d)) l ≡ tableOf d

@@ -1,0 +1,56 @@
+-- The laws of `patch`.
+--
+--   patch-none, patch-more    no place; one place more
+--   length-patch              the length stays
+--   patch-inside, patch-below, patch-above    what stands at a place of the part, before it, behind it
+--   patch-cong                only the values that are written count
+-- Assumes nothing.
+use mathlib.Core.Path.{_≡_, refl, ap₂, _∙_}
+use mathlib.Core.List.{List}
+use Prim.Native.Nat.{ℕ, zero, suc, _+_, _≤_, _<_}
+use native.Mathlib.Numerals.{add-one}
+use native.Mathlib.Decide.{ℕ-discrete}
+use native.Mathlib.Omega.{arith}
+use lib.ListN.{length, getD, set, length-set}
+use lib.Seq.{getD-set-same, getD-set-other}
+use Rattle.patch.specs.Patch.{patch}
+
+module _ {A : Type 0} (at : ℕ) (f : ℕ → A) (l : List A) where
+  pub patch-none : patch at 0 f l ≡ l
+  unfolding patch
+  patch-none = refl
+
+  pub patch-more : (n : ℕ) → patch at (n + 1) f l ≡ set (patch at n f l) (at + n) (f n)
+  unfolding patch
+  patch-more n = rw add-one
+
+  pub length-patch : (n : ℕ) → length (patch at n f l) ≡ length l
+  unfolding patch
+  length-patch zero = refl
+  length-patch (suc n) = length-set (patch at n f l) (at + n) (f n) ∙ length-patch n
+
+  pub patch-below : (n i : ℕ) (d : A) → i < at → getD (patch at n f l) i d ≡ getD l i d
+  unfolding patch
+  patch-below zero i d h = refl
+  patch-below (suc n) i d h = getD-set-other (patch at n f l) (at + n) i (f n) d (omega arith) ∙ patch-below n i d h
+
+  pub patch-above : (n i : ℕ) (d : A) → at + n ≤ i → getD (patch at n f l) i d ≡ getD l i d
+  unfolding patch
+  patch-above zero i d h = refl
+  patch-above (suc n) i d h = getD-set-other (patch at n f l) (at + n) i (f n) d (omega arith) ∙ patch-above n i d (omega arith)
+
+  inside-by : (n k : ℕ) (d : A) → k < suc n → at + suc n ≤ length l → (k < n → getD (patch at n f l) (at + k) d ≡ f k)
+      → Dec (k ≡ n) → getD (patch at (suc n) f l) (at + k) d ≡ f k
+  unfolding patch
+  inside-by n k d h fits ih (yes e) = rw e (getD-set-same (patch at n f l) (at + n) (f n) d (rw (length-patch n) (omega arith)))
+  inside-by n k d h fits ih (no e) = getD-set-other (patch at n f l) (at + n) (at + k) (f n) d (omega arith) ∙ ih (omega arith)
+
+  pub patch-inside : (n k : ℕ) (d : A) → k < n → at + n ≤ length l → getD (patch at n f l) (at + k) d ≡ f k
+  patch-inside zero k d h fits = absurd (let z : k < 0 = h in omega arith)
+  patch-inside (suc n) k d h fits = inside-by n k d h fits (λ j. patch-inside n k d j (omega arith)) (ℕ-discrete k n)
+
+pub patch-cong : {A : Type 0} (at n : ℕ) (f g : ℕ → A) (l : List A) → ((k : ℕ) → k < n → f k ≡ g k) → patch at n f l ≡ patch at n g l
+unfolding patch
+patch-cong {A} at zero f g l e = refl
+patch-cong {A} at (suc n) f g l e =
+    ap₂ (λ (s : List A) (v : A). set s (at + n) v) (patch-cong at n f g l (λ k h. e k (omega arith))) (e n (omega arith))

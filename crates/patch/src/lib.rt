@@ -1,0 +1,1 @@
+// A part of a list written anew: what a loop over a slice leaves.
