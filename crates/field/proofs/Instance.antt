@@ -1,15 +1,19 @@
 -- The three fields: each degree passes its tests, and so has the laws.
 --
 --   generated-2, generated-4, generated-8    the tests, which antt computes
---   Degree d       d is 2, 4 or 8; degree-of makes it of the number
---   field d        the laws of the field of degree d
+--   generated d    the tests of a degree that is not bad
+--   field d        the laws of the field of such a degree
 -- Assumes nothing.
-use mathlib.Core.Path.{_≡_, refl, subst}
+use mathlib.Core.Path.{_≡_}
+use mathlib.Core.Logic.{_⊎_, inl, inr}
+use mathlib.Core.Bool.{false}
 use Prim.Native.Nat.{ℕ, _^_, _<_}
 use native.Mathlib.Decide.{ℕ-discrete}
 use native.Mathlib.Omega.{arith}
 use lib.Dec.{ltb→lt}
 use lib.Pow.{pow-pos}
+use Rattle.refusal.specs.Refusal.{badDegree}
+use Rattle.refusal.proofs.Laws.{degrees}
 use Rattle.field.specs.Symbols.{plus, modulus, timesX, timesLow, times, over}
 use Rattle.field.specs.Tables.{power, powers, placeOf}
 use Rattle.field.specs.Arithmetic.{gf}
@@ -18,19 +22,27 @@ use Rattle.field.proofs.Sums.{plus-comm, plus-assoc, zero-plus, plus-se
 use Rattle.field.proofs.Products.{times-plus, times-comm, times-assoc, times-below, one-times}
 use Rattle.field.proofs.Powers.{Generated, over-times, over-zero, over-below}
 
-pub generated-2 : Generated 2
+generated-2 : Generated 2
 unfolding timesX timesLow times plus modulus power powers placeOf
 generated-2 = record { tested = record { commute = tt; associate = tt; close = tt; unit = tt; move = tt }; two = tt; round = tt; reach = tt }
 
-pub generated-4 : Generated 4
+generated-4 : Generated 4
 unfolding timesX timesLow times plus modulus power powers placeOf
 generated-4 = record { tested = record { commute = tt; associate = tt; close = tt; unit = tt; move = tt }; two = tt; round = tt; reach = tt }
 
-pub generated-8 : Generated 8
+generated-8 : Generated 8
 unfolding timesX timesLow times plus modulus power powers placeOf
 generated-8 = record { tested = record { commute = tt; associate = tt; close = tt; unit = tt; move = tt }; two = tt; round = tt; reach = tt }
 
-pub field-of : (d : ℕ) → Generated d → Field (gf d)
+pub generated : (d : ℕ) → badDegree d ≡ false → Generated d
+generated d h = go (degrees d h)
+  where
+    go : (d ≡ 2) ⊎ ((d ≡ 4) ⊎ (d ≡ 8)) → Generated d
+    go (inl e) = rw e generated-2
+    go (inr (inl e)) = rw e generated-4
+    go (inr (inr e)) = rw e generated-8
+
+field-of : (d : ℕ) → Generated d → Field (gf d)
 field-of d 𝓖 = record {
     plus-comm = plus-comm;
     plus-assoc = plus-assoc;
@@ -50,3 +62,6 @@ field-of d 𝓖 = record {
     over-in = over-below d;
     same = ℕ-discrete
     }
+
+pub field : (d : ℕ) → badDegree d ≡ false → Field (gf d)
+field d h = field-of d (generated d h)

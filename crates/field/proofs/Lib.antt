@@ -3,3 +3,4 @@ pub mod Sums
 pub mod Products
 pub mod Powers
 pub mod Instance
+pub mod Reading

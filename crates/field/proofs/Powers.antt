@@ -55,7 +55,7 @@ unfolding power
 powers-at d n i h = powers-from d n 0 i h ∙ ap (power d) (zero-add i)
 
 -- the exponent of a nonzero symbol
-pub exponent : ℕ → ℕ → ℕ
+unfoldable pub exponent : ℕ → ℕ → ℕ
 exponent d b = placeOf b (powers d (2 ^ d - 1) 1)
 
 -- ---- the search for a quotient

@@ -5,7 +5,8 @@
 --   placeOf b p    the place of b in the list p, its length where b is not in it
 --   tableOf d      the exponent of each symbol as a power of x, then the powers x^0 to x^(2q − 3), q = 2 ^ d
 --   IsTable d l    l begins with the table of degree d
-use Prim.Native.Nat.{ℕ, zero, suc, _-_, _^_}
+--   Exponent d a i i is the exponent of a, within one round
+use Prim.Native.Nat.{ℕ, zero, suc, _-_, _^_, _<_}
 use mathlib.Core.Path.{_≡_}
 use mathlib.Core.Bool.{Bool, cond}
 use mathlib.Core.List.{List, [], _∷_, _++_}
@@ -39,3 +40,7 @@ tableOf d = tableFrom (2 ^ d) (powers d (2 ^ d - 1) 1)
 
 unfoldable pub IsTable : ℕ → List ℕ → Type 0
 IsTable d l = take (length (tableOf d)) l ≡ tableOf d
+
+pub record Exponent (d a i : ℕ) : Type 0 where
+  pub within : i < 2 ^ d - 1
+  pub raised : power d i ≡ a

@@ -4,10 +4,10 @@
 // names a table has it copied to its stack: the outermost function calls `lend` once, and lends what it got.
 ghost use mathlib.Core.Path.{_≡_};
 ghost use mathlib.Core.Bool.{false};
-ghost use Prim.Native.Nat.{_^_, _<_};
+ghost use Prim.Native.Nat.{_+_, _-_, _^_, _<_};
 ghost use Rattle.refusal.specs.Refusal.{badDegree};
 ghost use Rattle.field.specs.Symbols.{times, over};
-ghost use Rattle.field.specs.Tables.{IsTable};
+ghost use Rattle.field.specs.Tables.{power, IsTable, Exponent};
 
 // How long a lent table is, whichever the field.
 pub const LENT: usize = 766;
@@ -857,4 +857,73 @@ pub fn lend(degree: u32) -> [u8; LENT]
         bytes::copy(&GF256, &mut table);
     }
     table
+}
+
+fn wide(a: u8) -> usize
+    ensures { λ r. ⌜ r ≡ a ⌝ }
+{
+    a as usize
+}
+
+// How many symbols the field has.
+pub fn size(degree: u32) -> usize
+    requires { ⌜ badDegree degree ≡ false ⌝ }
+    ensures { λ r. ⌜ r ≡ 2 ^ degree ⌝ }
+{
+    1usize << degree
+}
+
+// The exponent of a symbol that is not zero, as a power of x.
+fn exponent_from(table: &[u8; LENT], degree: u32, a: u8) -> usize
+    requires { ⌜ badDegree degree ≡ false ⌝ }
+    requires { ⌜ IsTable degree (now table) ⌝ }
+    requires { ⌜ a < 2 ^ degree ⌝ }
+    requires { ⌜ (a ≡ 0 → ⊥) ⌝ }
+    ensures { λ r. ⌜ Exponent degree a r ⌝ }
+{
+    wide(table[wide(a)])
+}
+
+// A power of x, within the two rounds that a table has.
+fn power_from(table: &[u8; LENT], degree: u32, i: usize) -> u8
+    requires { ⌜ badDegree degree ≡ false ⌝ }
+    requires { ⌜ IsTable degree (now table) ⌝ }
+    requires { ⌜ i < (2 ^ degree - 1) + (2 ^ degree - 1) ⌝ }
+    ensures { λ r. ⌜ r ≡ power degree i ⌝ }
+{
+    table[size(degree) + i]
+}
+
+// For the crates above: the product of two symbols, from a lent table.
+pub fn product_from(table: &[u8; LENT], degree: u32, a: u8, b: u8) -> u8
+    requires { ⌜ badDegree degree ≡ false ⌝ }
+    requires { ⌜ IsTable degree (now table) ⌝ }
+    requires { ⌜ (a < 2 ^ degree) × (b < 2 ^ degree) ⌝ }
+    ensures { λ r. ⌜ r ≡ times degree a b ⌝ }
+{
+    if a == 0 {
+        return 0;
+    }
+    if b == 0 {
+        return 0;
+    }
+    let i = exponent_from(table, degree, a);
+    let j = exponent_from(table, degree, b);
+    power_from(table, degree, i + j)
+}
+
+// For the crates above: the quotient of a symbol by one that is not zero, from a lent table.
+pub fn quotient_from(table: &[u8; LENT], degree: u32, a: u8, b: u8) -> u8
+    requires { ⌜ badDegree degree ≡ false ⌝ }
+    requires { ⌜ IsTable degree (now table) ⌝ }
+    requires { ⌜ (a < 2 ^ degree) × (b < 2 ^ degree) ⌝ }
+    requires { ⌜ (b ≡ 0 → ⊥) ⌝ }
+    ensures { λ r. ⌜ r ≡ over degree a b ⌝ }
+{
+    if a == 0 {
+        return 0;
+    }
+    let i = exponent_from(table, degree, a);
+    let j = exponent_from(table, degree, b);
+    power_from(table, degree, i + (size(degree) - 1 - j))
 }
