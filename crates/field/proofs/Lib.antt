@@ -4,3 +4,4 @@ pub mod Products
 pub mod Powers
 pub mod Instance
 pub mod Reading
+pub mod Combined

@@ -16,12 +16,12 @@ use Prim.Native.Nat.{ℕ, zero, suc, _+_, _-_, _*_, _/_, _%_, _^_, _≤_, _<_}
 use native.Mathlib.Nat.{suc-add, add-suc, zero-add, add-zero, sub-add-cancel, le-of-lt}
 use native.Mathlib.Omega.{arith}
 use native.Mathlib.Decide.{ℕ-discrete}
-use lib.Dec.{T, eqb, ltb, eqb→eq, ltb→lt}
+use lib.Dec.{T, eqb, leb, ltb, eqb→eq, leb→le, ltb→lt}
 use lib.ListN.{length, getD}
 use lib.Pow.{pow-pos}
 use borrow.Author.Tests.{eq-eqb, ne-eqb}
 use Rattle.field.specs.Symbols.{plus, timesX, times, quotientBelow, over}
-use Rattle.field.specs.Tables.{power, powers, placeOf}
+use Rattle.field.specs.Tables.{power, powers, placeOf, Exponent}
 use Rattle.field.proofs.Products.{Tested, times-comm, times-assoc, times-below, one-times, x-times, zero-times, allBelow, below}
 
 -- b is 0 or stands at its place in p
@@ -36,6 +36,8 @@ pub record Generated (d : ℕ) : Type 0 where
   pub two : T (ltb 1 (2 ^ d))
   pub round : T (eqb (power d (2 ^ d - 1)) 1)
   pub reach : T (standAll (2 ^ d) (powers d (2 ^ d - 1) 1))
+  pub start : T (allBelow d λ i. eqb (power d i) (2 ^ i))
+  pub room : T (leb d (2 ^ d - 1))
 
 -- ---- one round of powers as a list
 
@@ -106,6 +108,16 @@ module _ (d : ℕ) (𝓖 : Generated d) where
   unfolding power
   power-below zero = one-below
   power-below (suc i) = rw (x-times d (𝓖 .tested) (power d i) (power-below i)) (times-below d (𝓖 .tested) 2 (power d i))
+
+  -- below x^d a power of x is a power of two
+  pub power-small : (i : ℕ) → i < d → Exponent d (2 ^ i) i
+  power-small i h = record {
+      within = omega (arith, leb→le d (2 ^ d - 1) (𝓖 .room));
+      raised = eqb→eq (power d i) (2 ^ i) (below d (λ j. eqb (power d j) (2 ^ j)) (𝓖 .start) i h)
+      }
+
+  pub degree-within : d ≤ 2 ^ d - 1
+  degree-within = leb→le d (2 ^ d - 1) (𝓖 .room)
 
   pub power-add : (i j : ℕ) → times d (power d i) (power d j) ≡ power d (i + j)
   unfolding power

@@ -6,27 +6,27 @@
 --   times-below                   a product is a symbol
 --   times-comm, times-assoc       for all numbers
 --   one-times, x-times            the unit; x times a symbol is the product by 2
+--   zero-times, times-high        nothing; what has no bit among the d low ones
 -- Assumes nothing.
 use mathlib.Core.Path.{_≡_, refl, sym, ap, ap₂, _∙_, subst}
-use mathlib.Core.Logic.{_⊎_, inl, inr}
 use mathlib.Core.Bool.{Bool, true, false, _&&_}
 use Prim.Native.Nat.{ℕ, zero, suc, _+_, _-_, _*_, _/_, _%_, _^_, _≤_, _<_}
-use native.Mathlib.Nat.{mod-lt, mod-eq-of-lt, mod-mod, zero-mul, one-mul}
+use native.Mathlib.Nat.{mod-lt, mod-mod, mul-mod-left, sub-add-cancel}
 use native.Mathlib.Numerals.{add-one}
 use native.Mathlib.Omega.{arith}
 use native.Mathlib.Decide.{ℕ-discrete}
 use lib.Dec.{T, eqb, ltb, eqb→eq, ltb→lt}
-use lib.Pow.{pow-pos, mod-mod-pow}
+use lib.Pow.{pow-pos, pow-add, mod-mod-pow}
 use lib.Pow
 use Rattle.field.specs.Symbols.{plus, modulus, timesX, timesLow, times}
-use Rattle.field.proofs.Sums.{plus-self, plus-swap, plus-half, plus-low, plus-double, plus-bit, bit-plus, Additive, additive-zero, agree, closed}
+use Rattle.field.proofs.Sums.{plus-self, plus-swap, plus-half, plus-low, plus-shift, plus-bit, bit-plus, Additive, additive-zero, agree, closed}
 
 -- ---- of any polynomial
 
-timesX-plus : (d : ℕ) → Additive (timesX d)
+pub timesX-plus : (d : ℕ) → Additive (timesX d)
 unfolding timesX
 timesX-plus d a b =
-    ap₂ plus (plus-double a b)
+    ap₂ plus (plus-shift 1 a b)
       (ap (λ (x : ℕ). x % 2 * modulus d) (plus-half (d - 1) a b) ∙ plus-bit (a / 2 ^ (d - 1)) (b / 2 ^ (d - 1)) (modulus d))
     ∙ plus-swap (a * 2) (b * 2) (a / 2 ^ (d - 1) % 2 * modulus d) (b / 2 ^ (d - 1) % 2 * modulus d)
 
@@ -194,3 +194,9 @@ module _ (d : ℕ) (𝓣 : Tested d) where
 
   pub zero-times : (a : ℕ) → times d 0 a ≡ 0
   zero-times a = additive-zero (λ x. times d x a) (plus-times d a)
+
+  pub times-high : (i c : ℕ) → d ≤ i → times d (2 ^ i) c ≡ 0
+  times-high i c h =
+      sym (cut-left d (2 ^ i) c)
+      ∙ ap (λ (x : ℕ). times d x c) (rw (← (sub-add-cancel h)) (rw (pow-add 2 (i - d) d) (mul-mod-left (2 ^ (i - d)) (2 ^ d))))
+      ∙ zero-times c

@@ -2,7 +2,7 @@
 --
 --   plus-comm, plus-assoc, zero-plus, plus-zero, plus-self    the group laws
 --   plus-below      the sum of two symbols is a symbol
---   plus-half, plus-low, plus-double                           the sum bit by bit: shifted down, cut, shifted up
+--   plus-half, plus-low, plus-shift                            the sum bit by bit: shifted down, cut, shifted up
 --   Additive f      f of a sum is the sum of its values
 --   agree           two additive functions that agree at the powers of two below 2 ^ d agree on all symbols of degree d
 --   closed          an additive function that sends those powers to symbols sends symbols to symbols
@@ -18,7 +18,7 @@ use lib.Bits.{bitXor, differ, xor-step, xor-comm, xor-zero-l, xor-zero-r, xor-se
 use Rattle.field.specs.Symbols.{plus}
 
 -- a bit is 0 or 1
-bit-cases : (x : ℕ) → x < 2 → (x ≡ 0) ⊎ (x ≡ 1)
+pub bit-cases : (x : ℕ) → x < 2 → (x ≡ 0) ⊎ (x ≡ 1)
 bit-cases zero h = inl refl
 bit-cases (suc zero) h = inr refl
 bit-cases (suc (suc x)) h = absurd (let z : suc (suc x) < 2 = h in omega arith)
@@ -53,7 +53,7 @@ bits-differ x y hx hy = go (bit-cases x hx) (bit-cases y hy)
     go (inr p) (inl q) = rw (p, q)
     go (inr p) (inr q) = rw (p, q)
 
-bit-lt : (a : ℕ) → a % 2 < 2
+pub bit-lt : (a : ℕ) → a % 2 < 2
 bit-lt a = mod-lt a (omega arith)
 
 bit-differs : (a b : ℕ) → bitXor a b % 2 ≡ differ (a % 2) (b % 2)
@@ -107,12 +107,12 @@ pub plus-low : (k a b : ℕ) → plus a b % 2 ^ k ≡ plus (a % 2 ^ k) (b % 2 ^ 
 unfolding plus
 plus-low k a b = xor-mod a b k
 
-pub plus-double : (a b : ℕ) → plus a b * 2 ≡ plus (a * 2) (b * 2)
+pub plus-shift : (k a b : ℕ) → plus a b * 2 ^ k ≡ plus (a * 2 ^ k) (b * 2 ^ k)
 unfolding plus
-plus-double a b =
-    sym (add-zero (bitXor a b * 2))
-    ∙ sym (xor-block 1 a b 0 0 (omega arith) (omega arith))
-    ∙ ap₂ bitXor (add-zero (a * 2)) (add-zero (b * 2))
+plus-shift k a b =
+    sym (add-zero (bitXor a b * 2 ^ k))
+    ∙ sym (xor-block k a b 0 0 (pow-pos k) (pow-pos k))
+    ∙ ap₂ bitXor (add-zero (a * 2 ^ k)) (add-zero (b * 2 ^ k))
 
 -- a bit times a number
 pub plus-bit : (a b m : ℕ) → plus a b % 2 * m ≡ plus (a % 2 * m) (b % 2 * m)
@@ -136,10 +136,15 @@ Additive f = (a b : ℕ) → f (plus a b) ≡ plus (f a) (f b)
 pub additive-zero : (f : ℕ → ℕ) → Additive f → f 0 ≡ 0
 additive-zero f af = ap f (sym (plus-self 0)) ∙ af 0 0 ∙ plus-self (f 0)
 
--- a number below 2 ^ (d + 1) is its top bit's power and what is below it
-top : (d a : ℕ) → a ≡ plus (a / 2 ^ d * 2 ^ d) (a % 2 ^ d)
+-- a number is what stands above its d low bits and those
+pub top : (d a : ℕ) → a ≡ plus (a / 2 ^ d * 2 ^ d) (a % 2 ^ d)
 unfolding plus
 top d a = sym (split a d) ∙ sym (xor-shifted (a / 2 ^ d) d (a % 2 ^ d) (mod-lt a (pow-pos d)))
+
+pub additive-bit : (f : ℕ → ℕ) → Additive f → (p s : ℕ) → f (s % 2 * p) ≡ s % 2 * f p
+additive-bit f af p s =
+    ⊎-elim (λ (z : s % 2 ≡ 0). rw (z, zero-mul p, zero-mul (f p)) (additive-zero f af)) (λ (z : s % 2 ≡ 1). rw (z, one-mul p, one-mul (f p)) refl)
+    (bit-cases (s % 2) (bit-lt s))
 
 module _ (f g : ℕ → ℕ) (af : Additive f) (ag : Additive g) where
   at-top : (p q : ℕ) → f p ≡ g p → q < 2 → f (q * p) ≡ g (q * p)

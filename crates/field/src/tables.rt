@@ -874,7 +874,7 @@ pub fn size(degree: u32) -> usize
 }
 
 // The exponent of a symbol that is not zero, as a power of x.
-fn exponent_from(table: &[u8; LENT], degree: u32, a: u8) -> usize
+pub(crate) fn exponent_from(table: &[u8; LENT], degree: u32, a: u8) -> usize
     requires { ⌜ badDegree degree ≡ false ⌝ }
     requires { ⌜ IsTable degree (now table) ⌝ }
     requires { ⌜ a < 2 ^ degree ⌝ }
@@ -885,7 +885,7 @@ fn exponent_from(table: &[u8; LENT], degree: u32, a: u8) -> usize
 }
 
 // A power of x, within the two rounds that a table has.
-fn power_from(table: &[u8; LENT], degree: u32, i: usize) -> u8
+pub(crate) fn power_from(table: &[u8; LENT], degree: u32, i: usize) -> u8
     requires { ⌜ badDegree degree ≡ false ⌝ }
     requires { ⌜ IsTable degree (now table) ⌝ }
     requires { ⌜ i < (2 ^ degree - 1) + (2 ^ degree - 1) ⌝ }
