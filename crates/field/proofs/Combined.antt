@@ -2,14 +2,15 @@
 --
 --   combined-times     combined (doublings d c) s = s·c
 --   doublings-zero     nothing doubled is nothing
+--   low-zero, low-step no bit; one bit more
 --   low-times          the product over eight bits, for symbols of any degree
---   doubled            x times a symbol, in a byte
+--   doubled-small, doubled-large    x times a symbol, in a byte, by whether its top bit is set
 -- Assumes nothing.
 use mathlib.Core.Path.{_≡_, refl, sym, ap, ap₂, _∙_}
 use mathlib.Core.Logic.{⊎-elim}
 use mathlib.Core.List.{List, [], _∷_}
 use Prim.Native.Nat.{ℕ, zero, suc, _+_, _-_, _*_, _/_, _%_, _^_, _≤_, _<_}
-use native.Mathlib.Nat.{mod-eq-of-lt, lt-of-lt-of-le, one-mul, zero-mul, mul-one, mul-assoc, mul-comm, pow-suc, add-zero, zero-add, add-suc, suc-add}
+use native.Mathlib.Nat.{mod-eq-of-lt, div-eq-of-lt, div-eq-of-lt-le, lt-of-lt-of-le, one-mul, zero-mul, mul-one, mul-assoc, mul-comm, pow-suc, add-zero, zero-add, add-suc, suc-add}
 use native.Mathlib.Numerals.{add-one}
 use native.Mathlib.Omega.{arith}
 use lib.ListN.{getD, replicate}
@@ -17,7 +18,7 @@ use lib.Arith.{lt-one}
 use lib.Pow.{pow-pos, pow-mono, shr-lt}
 use Rattle.field.specs.Symbols.{plus, modulus, timesX, timesLow, times}
 use Rattle.field.specs.Combining.{doublingsFrom, combinedFrom}
-use Rattle.field.proofs.Sums.{plus-comm, plus-self, plus-shift, plus-low, top, bit-cases, bit-lt, Additive, additive-zero, additive-bit}
+use Rattle.field.proofs.Sums.{plus-comm, plus-zero, plus-self, plus-shift, plus-low, top, bit-cases, bit-lt, Additive, additive-zero, additive-bit}
 use Rattle.field.proofs.Products.{timesX-plus, plus-times, Tested, times-comm, times-below, x-times, zero-times}
 use Rattle.field.proofs.Powers.{Generated}
 
@@ -63,6 +64,15 @@ combined-times d c s h =
 
 -- ---- bit by bit
 
+pub low-zero : (d a b : ℕ) → 0 ≡ timesLow d 0 a b
+unfolding timesLow
+low-zero d a b = refl
+
+-- a bit more
+pub low-step : (d n a b : ℕ) {v higher : ℕ} → higher ≡ timesLow d n (a / 2) b → v ≡ plus (a % 2 * b) (timesX d higher) → v ≡ timesLow d (suc n) a b
+unfolding timesLow
+low-step d n a b e is = is ∙ ap (λ (x : ℕ). plus (a % 2 * b) (timesX d x)) e
+
 low-none : (d n b : ℕ) → timesLow d n 0 b ≡ 0
 unfolding timesLow
 low-none d zero b = refl
@@ -99,3 +109,17 @@ module _ (d : ℕ) (𝓖 : Generated d) where
       ∙ ap (plus (v * 2 % 256)) (sym (bit-low (v / 2 ^ (d - 1) % 2) (modulus d) (bit-lt (v / 2 ^ (d - 1)))))
       ∙ sym (plus-low 8 (v * 2) (v / 2 ^ (d - 1) % 2 * modulus d))
       ∙ mod-eq-of-lt (lt-of-lt-of-le (timesX-below v hv) (pow-mono h))
+
+  pub doubled-small : (v : ℕ) → d ≤ 8 → v < 2 ^ d → v < 2 ^ (d - 1) → v * 2 % 256 ≡ timesX d v
+  doubled-small v h hv k =
+      sym (plus-zero (v * 2 % 256)) ∙ ap (plus (v * 2 % 256)) (sym (zero-mul (modulus d % 256)))
+      ∙ doubled-by v 0 h hv (ap (λ (x : ℕ). x % 2) (div-eq-of-lt k))
+
+  pub doubled-large : (v : ℕ) → d ≤ 8 → v < 2 ^ d → 0 < d → 2 ^ (d - 1) ≤ v → plus (v * 2 % 256) (modulus d % 256) ≡ timesX d v
+  doubled-large v h hv pos k =
+      ap (plus (v * 2 % 256)) (sym (one-mul (modulus d % 256))) ∙ doubled-by v 1 h hv (ap (λ (x : ℕ). x % 2) top-bit)
+    where
+      whole : 2 ^ d ≡ 2 * 2 ^ (d - 1)
+      whole = ap (λ (x : ℕ). 2 ^ x) (let e : d ≡ suc (d - 1) = omega arith in e) ∙ pow-suc 2 (d - 1) ∙ mul-comm (2 ^ (d - 1)) 2
+      top-bit : v / 2 ^ (d - 1) ≡ 1
+      top-bit = div-eq-of-lt-le (2 ^ (d - 1)) (rw (one-mul (2 ^ (d - 1))) k) (rw whole at hv)

@@ -2,10 +2,12 @@
 --
 --   doublings d c        c, x·c, …, x^7·c; 0 where x^i is no symbol
 --   combined r s         the sum of those entries of r at which s has a bit
-use Prim.Native.Nat.{ℕ, zero, suc, _*_, _/_, _%_, _^_}
+--   Reducer d half low   what a doubling in a byte needs: the top bit of a symbol, and the polynomial's low eight bits
+use mathlib.Core.Path.{_≡_}
+use Prim.Native.Nat.{ℕ, zero, suc, _-_, _*_, _/_, _%_, _^_}
 use mathlib.Core.List.{List, [], _∷_}
 use lib.ListN.{getD}
-use Rattle.field.specs.Symbols.{plus, times}
+use Rattle.field.specs.Symbols.{plus, modulus, times}
 
 -- n doublings from x^i·c on
 unfoldable pub doublingsFrom : ℕ → ℕ → ℕ → ℕ → List ℕ
@@ -22,3 +24,7 @@ combinedFrom r i (suc n) s = plus (s % 2 * getD r i 0) (combinedFrom r (suc i) n
 
 abbrev pub combined : List ℕ → ℕ → ℕ
 combined r s = combinedFrom r 0 8 s
+
+pub record Reducer (d half low : ℕ) : Type 0 where
+  pub top : half ≡ 2 ^ (d - 1)
+  pub rest : low ≡ modulus d % 256

@@ -2,3 +2,4 @@ pub mod Symbols
 pub mod Arithmetic
 pub mod Tables
 pub mod Combining
+pub mod Lists

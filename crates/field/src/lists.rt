@@ -2,13 +2,15 @@
 // of two parts, symbol by symbol. Their bodies have no table to look up, so that they vectorise.
 ghost use mathlib.Core.Path.{_≡_};
 ghost use mathlib.Core.Bool.{false};
+ghost use mathlib.Core.Logic.{_⊎_};
 ghost use Prim.Native.Nat.{ℕ, _+_, _-_, _*_, _/_, _%_, _^_, _≤_, _<_};
 ghost use lib.ListN.{length, getD};
 ghost use Rattle.patch.specs.Patch.{patch};
 ghost use Rattle.refusal.specs.Refusal.{badDegree};
 ghost use Rattle.field.specs.Symbols.{plus, modulus, timesX, times};
 ghost use Rattle.field.specs.Tables.{IsTable, Exponent};
-ghost use Rattle.field.specs.Combining.{doublings, combined};
+ghost use Rattle.field.specs.Combining.{doublings, combined, Reducer};
+ghost use Rattle.field.specs.Lists.{scaled, added, multiplied};
 
 use crate::tables::LENT;
 use crate::tables::exponent_from;
@@ -77,4 +79,90 @@ fn combine(r: &[u8; 8], s: u8) -> u8
                     ^ (masked(s4 % 2, r[4])
                         ^ (masked(s5 % 2, r[5])
                             ^ (masked(s6 % 2, r[6]) ^ masked(s7 % 2, r[7])))))))
+}
+
+// Adds to the part of s at `into` the combined part at `from`, n symbols each.
+fn add_combined(r: &[u8; 8], s: &mut [u8], from: usize, into: usize, n: usize)
+    requires { ⌜ (from + n ≤ length (now s)) × (into + n ≤ length (now s)) ⌝ }
+    requires { ⌜ (from + n ≤ into) ⊎ (into + n ≤ from) ⌝ }
+    ensures { λ _. ⌜ now (s .exit) ≡ patch into n (λ k. plus (getD (now (s .entry)) (into + k) 0) (combined (now (r .entry)) (getD (now (s .entry)) (from + k) 0))) (now (s .entry)) ⌝ }
+{
+    let mut i = 0;
+    while i < n {
+        s[into + i] = s[into + i] ^ combine(r, s[from + i]);
+        i += 1;
+    }
+}
+
+// Combines the part of s at `at`, n symbols, in place.
+fn combine_all(r: &[u8; 8], s: &mut [u8], at: usize, n: usize)
+    requires { ⌜ at + n ≤ length (now s) ⌝ }
+    ensures { λ _. ⌜ now (s .exit) ≡ patch at n (λ k. combined (now (r .entry)) (getD (now (s .entry)) (at + k) 0)) (now (s .entry)) ⌝ }
+{
+    let mut i = 0;
+    while i < n {
+        s[at + i] = combine(r, s[at + i]);
+        i += 1;
+    }
+}
+
+// For the crates above: adds c times the part of s at `from` to its part at `into`, n symbols each.
+pub fn add_times(table: &[u8; LENT], degree: u32, c: u8, s: &mut [u8], from: usize, into: usize, n: usize)
+    requires { ⌜ (badDegree degree ≡ false) × IsTable degree (now table) × (c < 2 ^ degree) ⌝ }
+    requires { ⌜ (from + n ≤ length (now s)) × (into + n ≤ length (now s)) ⌝ }
+    requires { ⌜ (from + n ≤ into) ⊎ (into + n ≤ from) ⌝ }
+    ensures { λ _. ⌜ now (s .exit) ≡ patch into n (added degree c (now (s .entry)) from into) (now (s .entry)) ⌝ }
+{
+    let r = doublings_of(table, degree, c);
+    add_combined(&r, s, from, into, n);
+}
+
+// For the crates above: the part of s at `at`, n symbols, becomes c times what it was.
+pub fn scale(table: &[u8; LENT], degree: u32, c: u8, s: &mut [u8], at: usize, n: usize)
+    requires { ⌜ (badDegree degree ≡ false) × IsTable degree (now table) × (c < 2 ^ degree) ⌝ }
+    requires { ⌜ at + n ≤ length (now s) ⌝ }
+    ensures { λ _. ⌜ now (s .exit) ≡ patch at n (scaled degree c (now (s .entry)) at) (now (s .entry)) ⌝ }
+{
+    let r = doublings_of(table, degree, c);
+    combine_all(&r, s, at, n);
+}
+
+// x times a symbol.
+fn double(degree: u32, half: u8, low: u8, v: u8) -> u8
+    requires { ⌜ (badDegree degree ≡ false) × Reducer degree half low × (v < 2 ^ degree) ⌝ }
+    ensures { λ r. ⌜ r ≡ timesX degree v ⌝ }
+{
+    if v < half { v << 1 } else { (v << 1) ^ low }
+}
+
+// A bit of a product: the low bit of w times s, and x times the sum of the higher ones.
+fn bit_more(degree: u32, half: u8, low: u8, w: u8, s: u8, higher: u8) -> u8
+    requires { ⌜ (badDegree degree ≡ false) × Reducer degree half low ⌝ }
+    requires { ⌜ (s < 2 ^ degree) × (higher < 2 ^ degree) ⌝ }
+    ensures { λ r. ⌜ (r ≡ plus (w % 2 * s) (timesX degree higher)) × (r < 2 ^ degree) ⌝ }
+{
+    masked(w % 2, s) ^ double(degree, half, low, higher)
+}
+
+// The product of two symbols, bit by bit.
+fn product_by_bits(degree: u32, half: u8, low: u8, w: u8, s: u8) -> u8
+    requires { ⌜ (badDegree degree ≡ false) × Reducer degree half low ⌝ }
+    requires { ⌜ (w < 2 ^ degree) × (s < 2 ^ degree) ⌝ }
+    ensures { λ r. ⌜ r ≡ times degree w s ⌝ }
+{
+    let w1 = w / 2;
+    let w2 = w1 / 2;
+    let w3 = w2 / 2;
+    let w4 = w3 / 2;
+    let w5 = w4 / 2;
+    let w6 = w5 / 2;
+    let w7 = w6 / 2;
+    let v7 = bit_more(degree, half, low, w7, s, 0);
+    let v6 = bit_more(degree, half, low, w6, s, v7);
+    let v5 = bit_more(degree, half, low, w5, s, v6);
+    let v4 = bit_more(degree, half, low, w4, s, v5);
+    let v3 = bit_more(degree, half, low, w3, s, v4);
+    let v2 = bit_more(degree, half, low, w2, s, v3);
+    let v1 = bit_more(degree, half, low, w1, s, v2);
+    bit_more(degree, half, low, w, s, v1)
 }

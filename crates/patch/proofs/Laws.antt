@@ -4,10 +4,14 @@
 --   length-patch              the length stays
 --   patch-inside, patch-below, patch-above    what stands at a place of the part, before it, behind it
 --   patch-cong                only the values that are written count
+--   patch-step                a loop's turn: one value stored behind the part
+--   here, aside               what a loop reads: at the place that it is to write, at one of a part that it does not write
 -- Assumes nothing.
-use mathlib.Core.Path.{_≡_, refl, ap₂, _∙_}
+use mathlib.Core.Path.{_≡_, refl, sym, ap, ap₂, _∙_}
+use mathlib.Core.Logic.{_⊎_, ⊎-elim}
 use mathlib.Core.List.{List}
 use Prim.Native.Nat.{ℕ, zero, suc, _+_, _≤_, _<_}
+use native.Mathlib.Nat.{le-refl}
 use native.Mathlib.Numerals.{add-one}
 use native.Mathlib.Decide.{ℕ-discrete}
 use native.Mathlib.Omega.{arith}
@@ -54,3 +58,16 @@ unfolding patch
 patch-cong {A} at zero f g l e = refl
 patch-cong {A} at (suc n) f g l e =
     ap₂ (λ (s : List A) (v : A). set s (at + n) v) (patch-cong at n f g l (λ k h. e k (omega arith))) (e n (omega arith))
+
+module _ {A : Type 0} (at i : ℕ) (f : ℕ → A) (l : List A) {s : List A} (is : s ≡ patch at i f l) where
+  pub patch-step : {v : A} → v ≡ f i → set s (at + i) v ≡ patch at (i + 1) f l
+  patch-step e = ap₂ (λ (t : List A) (x : A). set t (at + i) x) is e ∙ sym (patch-more at f l i)
+
+  pub here : (d : A) → getD s (at + i) d ≡ getD l (at + i) d
+  here d = ap (λ (t : List A). getD t (at + i) d) is ∙ patch-above at f l i (at + i) d (le-refl (at + i))
+
+  pub aside : (d : A) (from n : ℕ) → i < n → (from + n ≤ at) ⊎ (at + n ≤ from) → getD s (from + i) d ≡ getD l (from + i) d
+  aside d from n h a =
+      ap (λ (t : List A). getD t (from + i) d) is
+      ∙ ⊎-elim (λ (k : from + n ≤ at). patch-below at f l i (from + i) d (omega arith))
+          (λ (k : at + n ≤ from). patch-above at f l i (from + i) d (omega arith)) a

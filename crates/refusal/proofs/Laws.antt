@@ -1,7 +1,7 @@
 -- What a test that fails shows, and how a ladder of checks goes on.
 --
 --   degrees       a degree that is not bad is 2, 4 or 8
---   up-to-eight   so it is at most 8
+--   up-to-eight, positive    so it is at most 8, and not 0
 --   field-size    and the field has at most 256 symbols
 --   inside        a symbol that is not outside the field is below 2 ^ d
 --   hit, miss     the first check applies, or the rest decides
@@ -37,6 +37,14 @@ pub up-to-eight : (d : ℕ) → badDegree d ≡ false → d ≤ 8
 up-to-eight d h = go (degrees d h)
   where
     go : (d ≡ 2) ⊎ ((d ≡ 4) ⊎ (d ≡ 8)) → d ≤ 8
+    go (inl e) = omega arith
+    go (inr (inl e)) = omega arith
+    go (inr (inr e)) = omega arith
+
+pub positive : (d : ℕ) → badDegree d ≡ false → 0 < d
+positive d h = go (degrees d h)
+  where
+    go : (d ≡ 2) ⊎ ((d ≡ 4) ⊎ (d ≡ 8)) → 0 < d
     go (inl e) = omega arith
     go (inr (inl e)) = omega arith
     go (inr (inr e)) = omega arith

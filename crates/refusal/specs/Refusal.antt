@@ -12,7 +12,7 @@ use lib.Dec.{eqb, leb}
 pub data Check : Type 0 where
   _when_ : ℕ → Bool → Check
 
-infixr 60 _when_
+infix 10 _when_
 
 -- 'The first that applies, in the call's own order where one is given, is the answer; no other reason exists.'
 unfoldable pub first : List Check → ℕ

@@ -1,0 +1,27 @@
+-- `field::lists::double` is x times the symbol.
+-- Assumes nothing.
+use mathlib.Core.Path.{_≡_, ap, _∙_}
+use Prim.Native.Nat.{ℕ, _<_, _≤_, _-_, _^_}
+use lib.Bits.{bitXor}
+use Rattle.refusal.proofs.Laws.{up-to-eight, positive}
+use Rattle.field.specs.Symbols.{plus}
+use Rattle.field.proofs.Instance.{generated}
+use Rattle.field.proofs.Combined.{doubled-small, doubled-large}
+use borrow.Author.Needs.{needs}
+use Rattle.field.proofs.lists.double.Statement.{statement}
+use Rattle.field.proofs.lists.double.Tie as tie
+
+returns : tie.Need-returns
+returns c = 
+    let p = c .before .pre in
+    doubled-small _ (generated _ (p .0)) _ (up-to-eight _ (p .0)) (p .2) (rw (p .1 .top) at (c .if1 .taken))
+
+returns-2 : tie.Need-returns-2
+unfolding plus
+returns-2 c = 
+    let p = c .before .pre in
+    rw (p .1 .rest)
+    (doubled-large _ (generated _ (p .0)) _ (up-to-eight _ (p .0)) (p .2) (positive _ (p .0)) (rw (p .1 .top) at (c .if1 .left)))
+
+pub double-spec : {M : Type 1} → statement M
+double-spec = tie.close (tie.spec returns returns-2)
