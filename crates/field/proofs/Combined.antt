@@ -10,7 +10,7 @@ use mathlib.Core.Path.{_≡_, refl, sym, ap, ap₂, _∙_}
 use mathlib.Core.Logic.{⊎-elim}
 use mathlib.Core.List.{List, [], _∷_}
 use Prim.Native.Nat.{ℕ, zero, suc, _+_, _-_, _*_, _/_, _%_, _^_, _≤_, _<_}
-use native.Mathlib.Nat.{mod-eq-of-lt, div-eq-of-lt, div-eq-of-lt-le, lt-of-lt-of-le, one-mul, zero-mul, mul-one, mul-assoc, mul-comm, pow-suc, add-zero, zero-add, add-suc, suc-add}
+use native.Mathlib.Nat.{mod-eq-of-lt, div-eq-of-lt, div-eq-of-lt-le, mul-div-cancel, lt-of-lt-of-le, one-mul, zero-mul, mul-one, mul-assoc, mul-comm, pow-suc, add-zero, zero-add, add-suc, suc-add}
 use native.Mathlib.Numerals.{add-one}
 use native.Mathlib.Omega.{arith}
 use lib.ListN.{getD, replicate}
@@ -89,6 +89,12 @@ low-more d (suc n) (suc m) a b h k =
 pub low-times : (d a b : ℕ) → d ≤ 8 → a < 2 ^ d → b < 2 ^ d → timesLow d 8 a b ≡ times d a b
 unfolding times
 low-times d a b h ha hb = low-more d d 8 a b h ha ∙ ap (timesLow d d a) (sym (mod-eq-of-lt hb))
+
+-- half of the field
+pub half-size : (d : ℕ) → 0 < d → 2 ^ d / 2 ≡ 2 ^ (d - 1)
+half-size d pos =
+    ap (λ (x : ℕ). 2 ^ x / 2) (let e : d ≡ suc (d - 1) = omega arith in e)
+    ∙ ap (λ (x : ℕ). x / 2) (pow-suc 2 (d - 1)) ∙ mul-div-cancel (2 ^ (d - 1)) (let two : 0 < 2 = omega arith in two)
 
 module _ (d : ℕ) (𝓖 : Generated d) where
   pub timesX-below : (v : ℕ) → v < 2 ^ d → timesX d v < 2 ^ d

@@ -24,15 +24,15 @@ use Rattle.field.proofs.Powers.{Generated, over-times, over-zero, over-
 
 generated-2 : Generated 2
 unfolding timesX timesLow times plus modulus power powers placeOf
-generated-2 = record { tested = record { commute = tt; associate = tt; close = tt; unit = tt; move = tt }; two = tt; round = tt; reach = tt; start = tt; room = tt }
+generated-2 = record { tested = record { commute = tt; associate = tt; close = tt; unit = tt; move = tt }; two = tt; round = tt; reach = tt; start = tt; room = tt; closing = tt }
 
 generated-4 : Generated 4
 unfolding timesX timesLow times plus modulus power powers placeOf
-generated-4 = record { tested = record { commute = tt; associate = tt; close = tt; unit = tt; move = tt }; two = tt; round = tt; reach = tt; start = tt; room = tt }
+generated-4 = record { tested = record { commute = tt; associate = tt; close = tt; unit = tt; move = tt }; two = tt; round = tt; reach = tt; start = tt; room = tt; closing = tt }
 
 generated-8 : Generated 8
 unfolding timesX timesLow times plus modulus power powers placeOf
-generated-8 = record { tested = record { commute = tt; associate = tt; close = tt; unit = tt; move = tt }; two = tt; round = tt; reach = tt; start = tt; room = tt }
+generated-8 = record { tested = record { commute = tt; associate = tt; close = tt; unit = tt; move = tt }; two = tt; round = tt; reach = tt; start = tt; room = tt; closing = tt }
 
 pub generated : (d : ℕ) → badDegree d ≡ false → Generated d
 generated d h = go (degrees d h)

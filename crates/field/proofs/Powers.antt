@@ -13,15 +13,16 @@ use mathlib.Core.Logic.{_⊎_, inl, inr}
 use mathlib.Core.Bool.{Bool, true, false, cond, _&&_, _||_}
 use mathlib.Core.List.{List, [], _∷_, _++_}
 use Prim.Native.Nat.{ℕ, zero, suc, _+_, _-_, _*_, _/_, _%_, _^_, _≤_, _<_}
-use native.Mathlib.Nat.{suc-add, add-suc, zero-add, add-zero, sub-add-cancel, le-of-lt}
+use native.Mathlib.Nat.{suc-add, add-suc, zero-add, add-zero, sub-add-cancel, le-of-lt, lt-of-lt-of-le, mod-eq-of-lt}
 use native.Mathlib.Omega.{arith}
 use native.Mathlib.Decide.{ℕ-discrete}
 use lib.Dec.{T, eqb, leb, ltb, eqb→eq, leb→le, ltb→lt}
 use lib.ListN.{length, getD}
-use lib.Pow.{pow-pos}
+use lib.Pow.{pow-pos, pow-mono}
 use borrow.Author.Tests.{eq-eqb, ne-eqb}
-use Rattle.field.specs.Symbols.{plus, timesX, times, quotientBelow, over}
+use Rattle.field.specs.Symbols.{plus, modulus, timesX, times, quotientBelow, over}
 use Rattle.field.specs.Tables.{power, powers, placeOf, Exponent}
+use Rattle.field.proofs.Sums.{plus-low}
 use Rattle.field.proofs.Products.{Tested, times-comm, times-assoc, times-below, one-times, x-times, zero-times, allBelow, below}
 
 -- b is 0 or stands at its place in p
@@ -38,6 +39,7 @@ pub record Generated (d : ℕ) : Type 0 where
   pub reach : T (standAll (2 ^ d) (powers d (2 ^ d - 1) 1))
   pub start : T (allBelow d λ i. eqb (power d i) (2 ^ i))
   pub room : T (leb d (2 ^ d - 1))
+  pub closing : T (eqb (modulus d) (plus (power d d) (2 ^ d)))
 
 -- ---- one round of powers as a list
 
@@ -118,6 +120,12 @@ module _ (d : ℕ) (𝓖 : Generated d) where
 
   pub degree-within : d ≤ 2 ^ d - 1
   degree-within = leb→le d (2 ^ d - 1) (𝓖 .room)
+
+  -- x^d and what it is reduced to make up the polynomial; here in a byte
+  pub power-degree : d ≤ 8 → plus (power d d) (2 ^ d % 256) ≡ modulus d % 256
+  power-degree h =
+      ap (λ (x : ℕ). plus x (2 ^ d % 256)) (sym (mod-eq-of-lt (lt-of-lt-of-le (power-below d) (pow-mono h))))
+      ∙ sym (plus-low 8 (power d d) (2 ^ d)) ∙ ap (λ (x : ℕ). x % 256) (sym (eqb→eq (modulus d) (plus (power d d) (2 ^ d)) (𝓖 .closing)))
 
   pub power-add : (i j : ℕ) → times d (power d i) (power d j) ≡ power d (i + j)
   unfolding power

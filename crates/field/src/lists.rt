@@ -10,7 +10,7 @@ ghost use Rattle.refusal.specs.Refusal.{badDegree};
 ghost use Rattle.field.specs.Symbols.{plus, modulus, timesX, times};
 ghost use Rattle.field.specs.Tables.{IsTable, Exponent};
 ghost use Rattle.field.specs.Combining.{doublings, combined, Reducer};
-ghost use Rattle.field.specs.Lists.{scaled, added, multiplied};
+ghost use Rattle.field.specs.Lists.{scaled, added, multiplied, SymbolsAt};
 
 use crate::tables::LENT;
 use crate::tables::exponent_from;
@@ -165,4 +165,38 @@ fn product_by_bits(degree: u32, half: u8, low: u8, w: u8, s: u8) -> u8
     let v2 = bit_more(degree, half, low, w2, s, v3);
     let v1 = bit_more(degree, half, low, w1, s, v2);
     bit_more(degree, half, low, w, s, v1)
+}
+
+// The polynomial without x^8, whatever its degree: what a doubling in a byte takes off.
+fn low_bits(table: &[u8; LENT], degree: u32) -> u8
+    requires { ⌜ (badDegree degree ≡ false) × IsTable degree (now table) ⌝ }
+    ensures { λ r. ⌜ r ≡ modulus degree % 256 ⌝ }
+{
+    power_from(table, degree, degree as usize) ^ (size(degree) % 256) as u8
+}
+
+// Multiplies the part of s at `at`, each symbol with b added, by the symbols of w with a added.
+fn multiply_by_bits(degree: u32, half: u8, low: u8, w: &[u8], a: u8, s: &mut [u8], at: usize, b: u8)
+    requires { ⌜ (badDegree degree ≡ false) × Reducer degree half low × (a < 2 ^ degree) × (b < 2 ^ degree) ⌝ }
+    requires { ⌜ at + length (now w) ≤ length (now s) ⌝ }
+    requires { ⌜ SymbolsAt degree (now w) 0 (length (now w)) × SymbolsAt degree (now s) at (length (now w)) ⌝ }
+    ensures { λ _. ⌜ now (s .exit) ≡ patch at (length (now (w .entry))) (multiplied degree (now (w .entry)) a (now (s .entry)) at b) (now (s .entry)) ⌝ }
+{
+    let mut i = 0;
+    while i < w.len() {
+        s[at + i] = product_by_bits(degree, half, low, w[i] ^ a, s[at + i] ^ b);
+        i += 1;
+    }
+}
+
+// For the crates above: multiplies the part of s at `at`, each symbol with b added, by the symbols of w with a added.
+pub fn multiply(table: &[u8; LENT], degree: u32, w: &[u8], a: u8, s: &mut [u8], at: usize, b: u8)
+    requires { ⌜ (badDegree degree ≡ false) × IsTable degree (now table) × (a < 2 ^ degree) × (b < 2 ^ degree) ⌝ }
+    requires { ⌜ at + length (now w) ≤ length (now s) ⌝ }
+    requires { ⌜ SymbolsAt degree (now w) 0 (length (now w)) × SymbolsAt degree (now s) at (length (now w)) ⌝ }
+    ensures { λ _. ⌜ now (s .exit) ≡ patch at (length (now (w .entry))) (multiplied degree (now (w .entry)) a (now (s .entry)) at b) (now (s .entry)) ⌝ }
+{
+    let half = (size(degree) / 2) as u8;
+    let low = low_bits(table, degree);
+    multiply_by_bits(degree, half, low, w, a, s, at, b);
 }
