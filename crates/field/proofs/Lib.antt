@@ -5,3 +5,4 @@ pub mod Powers
 pub mod Instance
 pub mod Reading
 pub mod Combined
+pub mod Promised

@@ -3,3 +3,4 @@ pub mod Arithmetic
 pub mod Tables
 pub mod Combining
 pub mod Lists
+pub mod Answers

@@ -1,3 +1,68 @@
-// Symbols of GF(4), GF(16) and GF(256).
+// Symbols of GF(4), GF(16) and GF(256): sum, product and quotient, and the loops over lists of symbols.
 pub mod lists;
 pub mod tables;
+
+ghost use mathlib.Core.Path.{_≡_};
+ghost use Rattle.refusal.specs.Refusal.{first};
+ghost use Rattle.field.specs.Symbols.{plus, times, over};
+ghost use Rattle.field.specs.Answers.{checks, Answers};
+
+// What an arithmetic call answers: the symbol, or the number of the refusal.
+pub enum Value {
+    Symbol(u8),
+    Refused(u8),
+}
+
+// The number of the first check that applies, 0 where none does: 1, then 7.
+fn first_refusal(degree: u32, a: u8, b: u8) -> u8
+    ensures { λ r. ⌜ r ≡ first (checks degree a b) ⌝ }
+{
+    if refusal::bad_degree(degree) {
+        return 1;
+    }
+    if refusal::outside_field(degree, a) {
+        return 7;
+    }
+    if refusal::outside_field(degree, b) {
+        return 7;
+    }
+    0
+}
+
+// The sum of two symbols; refusals 1 and 7.
+pub fn sum(degree: u32, a: u8, b: u8) -> Value
+    ensures { λ r. ⌜ Answers (checks degree a b) (plus a b) r ⌝ }
+{
+    let k = first_refusal(degree, a, b);
+    if k != 0 {
+        return Value::Refused(k);
+    }
+    Value::Symbol(a ^ b)
+}
+
+// The product of two symbols; refusals 1 and 7.
+pub fn product(degree: u32, a: u8, b: u8) -> Value
+    ensures { λ r. ⌜ Answers (checks degree a b) (times degree a b) r ⌝ }
+{
+    let k = first_refusal(degree, a, b);
+    if k != 0 {
+        return Value::Refused(k);
+    }
+    let table = tables::lend(degree);
+    Value::Symbol(tables::product_from(&table, degree, a, b))
+}
+
+// The quotient of two symbols, 0 where the second is zero; refusals 1 and 7.
+pub fn quotient(degree: u32, a: u8, b: u8) -> Value
+    ensures { λ r. ⌜ Answers (checks degree a b) (over degree a b) r ⌝ }
+{
+    let k = first_refusal(degree, a, b);
+    if k != 0 {
+        return Value::Refused(k);
+    }
+    if b == 0 {
+        return Value::Symbol(0);
+    }
+    let table = tables::lend(degree);
+    Value::Symbol(tables::quotient_from(&table, degree, a, b))
+}
