@@ -49,8 +49,8 @@ module _ (f : ℕ → ℕ) (af : Additive f) (r : List ℕ) where
   combined-from i zero s e h = sym (rw (lt-one h) (rw (zero-mul (2 ^ i)) (additive-zero f af)))
   combined-from i (suc n) s e h =
       ap₂ plus
-        (ap (λ (x : ℕ). s % 2 * x) (rw (add-zero i) at (e 0 (omega arith))) ∙ sym (additive-bit f af (2 ^ i) s))
-        (combined-from (suc i) n (s / 2) (λ k k<n. rw (← (shift-one k)) (e (suc k) (omega arith))) (half-below n s h))
+      (ap (λ (x : ℕ). s % 2 * x) (rw (add-zero i) at (e 0 (omega arith))) ∙ sym (additive-bit f af (2 ^ i) s))
+      (combined-from (suc i) n (s / 2) (λ k k<n. rw (← (shift-one k)) (e (suc k) (omega arith))) (half-below n s h))
       ∙ sym (af (s % 2 * 2 ^ i) (s / 2 * 2 ^ suc i)) ∙ ap f (sym (bits s i))
     where
       shift-one : (k : ℕ) → i + suc k ≡ suc i + k
@@ -59,7 +59,7 @@ module _ (f : ℕ → ℕ) (af : Additive f) (r : List ℕ) where
 pub combined-times : (d c s : ℕ) → s < 256 → combinedFrom (doublingsFrom d c 0 8) 0 8 s ≡ times d s c
 combined-times d c s h =
     combined-from (λ x. times d x c) (plus-times d c) (doublingsFrom d c 0 8) 0 8 s
-      (λ k k<n. rw (zero-add k) (doublings-at d c 0 8 k k<n ∙ ap (λ (x : ℕ). times d (2 ^ x) c) (zero-add k))) h
+    (λ k k<n. rw (zero-add k) (doublings-at d c 0 8 k k<n ∙ ap (λ (x : ℕ). times d (2 ^ x) c) (zero-add k))) h
     ∙ ap (λ (x : ℕ). times d x c) (mul-one s)
 
 -- ---- bit by bit
@@ -127,5 +127,6 @@ module _ (d : ℕ) (𝓖 : Generated d) where
     where
       whole : 2 ^ d ≡ 2 * 2 ^ (d - 1)
       whole = ap (λ (x : ℕ). 2 ^ x) (let e : d ≡ suc (d - 1) = omega arith in e) ∙ pow-suc 2 (d - 1) ∙ mul-comm (2 ^ (d - 1)) 2
+
       top-bit : v / 2 ^ (d - 1) ≡ 1
       top-bit = div-eq-of-lt-le (2 ^ (d - 1)) (rw (one-mul (2 ^ (d - 1))) k) (rw whole at hv)

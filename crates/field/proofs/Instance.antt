@@ -44,24 +44,24 @@ generated d h = go (degrees d h)
 
 field-of : (d : ℕ) → Generated d → Field (gf d)
 field-of d 𝓖 = record {
-    plus-comm = plus-comm;
-    plus-assoc = plus-assoc;
-    zero-plus = zero-plus;
-    plus-self = plus-self;
-    times-comm = times-comm d (𝓖 .tested);
-    times-assoc = times-assoc d (𝓖 .tested);
-    times-plus = times-plus d;
-    one-times = one-times d (𝓖 .tested);
-    over-times = over-times d 𝓖;
-    over-zero = over-zero d;
-    one-zero = λ (e : _≡_ {A = ℕ} 1 0). omega arith;
-    zero-in = pow-pos d;
-    one-in = ltb→lt 1 (2 ^ d) (𝓖 .two);
-    plus-in = plus-below d;
-    times-in = times-below d (𝓖 .tested);
-    over-in = over-below d;
-    same = ℕ-discrete
-    }
+  plus-comm = plus-comm;
+  plus-assoc = plus-assoc;
+  zero-plus = zero-plus;
+  plus-self = plus-self;
+  times-comm = times-comm d (𝓖 .tested);
+  times-assoc = times-assoc d (𝓖 .tested);
+  times-plus = times-plus d;
+  one-times = one-times d (𝓖 .tested);
+  over-times = over-times d 𝓖;
+  over-zero = over-zero d;
+  one-zero = λ (e : _≡_ {A = ℕ} 1 0). omega arith;
+  zero-in = pow-pos d;
+  one-in = ltb→lt 1 (2 ^ d) (𝓖 .two);
+  plus-in = plus-below d;
+  times-in = times-below d (𝓖 .tested);
+  over-in = over-below d;
+  same = ℕ-discrete;
+}
 
 pub field : (d : ℕ) → badDegree d ≡ false → Field (gf d)
 field d h = field-of d (generated d h)

@@ -114,9 +114,9 @@ module _ (d : ℕ) (𝓖 : Generated d) where
   -- below x^d a power of x is a power of two
   pub power-small : (i : ℕ) → i < d → Exponent d (2 ^ i) i
   power-small i h = record {
-      within = omega (arith, leb→le d (2 ^ d - 1) (𝓖 .room));
-      raised = eqb→eq (power d i) (2 ^ i) (below d (λ j. eqb (power d j) (2 ^ j)) (𝓖 .start) i h)
-      }
+    within = omega (arith, leb→le d (2 ^ d - 1) (𝓖 .room));
+    raised = eqb→eq (power d i) (2 ^ i) (below d (λ j. eqb (power d j) (2 ^ j)) (𝓖 .start) i h);
+  }
 
   pub degree-within : d ≤ 2 ^ d - 1
   degree-within = leb→le d (2 ^ d - 1) (𝓖 .room)
@@ -148,9 +148,11 @@ module _ (d : ℕ) (𝓖 : Generated d) where
     where
       p : List ℕ
       p = powers d (2 ^ d - 1) 1
+
       split : (s t : Bool) → T (s && t) → T s × T t
       split true t k = (tt, k)
       split false t k = absurd k
+
       go : T (stands p b) → eqb b 0 ≡ false → (getD p (placeOf b p) 0 ≡ b) × (placeOf b p < 2 ^ d - 1)
       go t e =
           let both : T (eqb (getD p (placeOf b p) 0) b) × T (ltb (placeOf b p) (length p)) = split (eqb (getD p (placeOf b p) 0) b) (ltb (placeOf b p) (length p)) (rw e at t) in
@@ -164,13 +166,13 @@ module _ (d : ℕ) (𝓖 : Generated d) where
 
   -- a nonzero symbol has an inverse
   inverse : (b : ℕ) → b < 2 ^ d → (b ≡ 0 → ⊥) → (c : ℕ) × (times d c b ≡ 1)
-  inverse b h n =
-      ( power d (2 ^ d - 1 - exponent d b)
-      , ap (times d (power d (2 ^ d - 1 - exponent d b))) (sym (power-exponent b h n))
+  inverse b h n = (
+    power d (2 ^ d - 1 - exponent d b),
+    ap (times d (power d (2 ^ d - 1 - exponent d b))) (sym (power-exponent b h n))
         ∙ power-add (2 ^ d - 1 - exponent d b) (exponent d b)
         ∙ ap (power d) (sub-add-cancel (le-of-lt (exponent-below b h n)))
-        ∙ eqb→eq (power d (2 ^ d - 1)) 1 (𝓖 .round)
-      )
+        ∙ eqb→eq (power d (2 ^ d - 1)) 1 (𝓖 .round),
+  )
 
   pub over-times : (a b : ℕ) → a < 2 ^ d → b < 2 ^ d → (b ≡ 0 → ⊥) → times d (over d a b) b ≡ a
   unfolding over
@@ -178,14 +180,14 @@ module _ (d : ℕ) (𝓖 : Generated d) where
       let c : (c : ℕ) × (times d c b ≡ 1) = inverse b hb n in
       rw (ne-eqb b 0 n)
       (found d a b (2 ^ d) (times d a (c .0)) (times-below d (𝓖 .tested) a (c .0))
-        (times-assoc d (𝓖 .tested) a (c .0) b ∙ ap (times d a) (c .1) ∙ times-comm d (𝓖 .tested) a 1 ∙ one-times d (𝓖 .tested) a ha))
+      (times-assoc d (𝓖 .tested) a (c .0) b ∙ ap (times d a) (c .1) ∙ times-comm d (𝓖 .tested) a 1 ∙ one-times d (𝓖 .tested) a ha))
 
   cancel : (a c b : ℕ) → a < 2 ^ d → c < 2 ^ d → b < 2 ^ d → (b ≡ 0 → ⊥) → times d a b ≡ times d c b → a ≡ c
   cancel a c b ha hc hb n e =
       let i : (i : ℕ) × (times d i b ≡ 1) = inverse b hb n in
       let back : (x : ℕ) → x < 2 ^ d → times d (i .0) (times d x b) ≡ x =
-          λ x hx. ap (times d (i .0)) (times-comm d (𝓖 .tested) x b) ∙ sym (times-assoc d (𝓖 .tested) (i .0) b x)
-          ∙ ap (λ (y : ℕ). times d y x) (i .1) ∙ one-times d (𝓖 .tested) x hx in
+      λ x hx. ap (times d (i .0)) (times-comm d (𝓖 .tested) x b) ∙ sym (times-assoc d (𝓖 .tested) (i .0) b x)
+      ∙ ap (λ (y : ℕ). times d y x) (i .1) ∙ one-times d (𝓖 .tested) x hx in
       sym (back a ha) ∙ ap (times d (i .0)) e ∙ back c hc
 
   pub over-unique : (a b c : ℕ) → b < 2 ^ d → c < 2 ^ d → (b ≡ 0 → ⊥) → times d c b ≡ a → over d a b ≡ c

@@ -27,7 +27,7 @@ pub timesX-plus : (d : ℕ) → Additive (timesX d)
 unfolding timesX
 timesX-plus d a b =
     ap₂ plus (plus-shift 1 a b)
-      (ap (λ (x : ℕ). x % 2 * modulus d) (plus-half (d - 1) a b) ∙ plus-bit (a / 2 ^ (d - 1)) (b / 2 ^ (d - 1)) (modulus d))
+    (ap (λ (x : ℕ). x % 2 * modulus d) (plus-half (d - 1) a b) ∙ plus-bit (a / 2 ^ (d - 1)) (b / 2 ^ (d - 1)) (modulus d))
     ∙ plus-swap (a * 2) (b * 2) (a / 2 ^ (d - 1) % 2 * modulus d) (b / 2 ^ (d - 1) % 2 * modulus d)
 
 low-plus : (d n a : ℕ) → Additive (timesLow d n a)
@@ -42,8 +42,8 @@ unfolding timesLow
 plus-low-left d zero b a c = sym (plus-self 0)
 plus-low-left d (suc n) b a c =
     ap₂ plus (plus-bit a c b)
-      (ap (timesX d) (ap (λ (h : ℕ). timesLow d n h b) (plus-half 1 a c) ∙ plus-low-left d n b (a / 2) (c / 2))
-        ∙ timesX-plus d (timesLow d n (a / 2) b) (timesLow d n (c / 2) b))
+    (ap (timesX d) (ap (λ (h : ℕ). timesLow d n h b) (plus-half 1 a c) ∙ plus-low-left d n b (a / 2) (c / 2))
+    ∙ timesX-plus d (timesLow d n (a / 2) b) (timesLow d n (c / 2) b))
     ∙ plus-swap (a % 2 * b) (c % 2 * b) (timesX d (timesLow d n (a / 2) b)) (timesX d (timesLow d n (c / 2) b))
 
 pub times-plus : (d a : ℕ) → Additive (times d a)
@@ -59,7 +59,7 @@ unfolding timesLow
 low-cut d zero a b = refl
 low-cut d (suc n) a b =
     ap₂ plus (ap (λ (x : ℕ). x * b) (rw (← (add-one n)) (mod-mod-pow a n 1)))
-      (ap (timesX d) (ap (λ (h : ℕ). timesLow d n h b) (rw (← (add-one n)) (Pow.field a n 1)) ∙ low-cut d n (a / 2) b))
+    (ap (timesX d) (ap (λ (h : ℕ). timesLow d n h b) (rw (← (add-one n)) (Pow.field a n 1)) ∙ low-cut d n (a / 2) b))
 
 -- only the d low bits of the factors count
 cut-left : (d a b : ℕ) → times d (a % 2 ^ d) b ≡ times d a b
@@ -123,12 +123,12 @@ module _ (d : ℕ) (𝓣 : Tested d) where
   comm-below : (a b : ℕ) → a < 2 ^ d → b < 2 ^ d → times d a b ≡ times d b a
   comm-below a b ha hb =
       agree (λ x. times d x b) (times d b) (plus-times d b) (times-plus d b) d
-        (λ i hi. agree (times d (2 ^ i)) (λ x. times d x (2 ^ i)) (times-plus d (2 ^ i)) (plus-times d (2 ^ i)) d
-          (λ j hj. eqb→eq (times d (2 ^ i) (2 ^ j)) (times d (2 ^ j) (2 ^ i))
-            (below d (λ y. eqb (times d (2 ^ i) (2 ^ y)) (times d (2 ^ y) (2 ^ i)))
-              (below d (λ x. allBelow d λ y. eqb (times d (2 ^ x) (2 ^ y)) (times d (2 ^ y) (2 ^ x))) (𝓣 .commute) i hi) j hj))
-          b hb)
-        a ha
+      (λ i hi. agree (times d (2 ^ i)) (λ x. times d x (2 ^ i)) (times-plus d (2 ^ i)) (plus-times d (2 ^ i)) d
+      (λ j hj. eqb→eq (times d (2 ^ i) (2 ^ j)) (times d (2 ^ j) (2 ^ i))
+      (below d (λ y. eqb (times d (2 ^ i) (2 ^ y)) (times d (2 ^ y) (2 ^ i)))
+      (below d (λ x. allBelow d λ y. eqb (times d (2 ^ x) (2 ^ y)) (times d (2 ^ y) (2 ^ x))) (𝓣 .commute) i hi) j hj))
+      b hb)
+      a ha
 
   symbol-of : (a : ℕ) → a % 2 ^ d < 2 ^ d
   symbol-of a = mod-lt a (pow-pos d)
@@ -140,30 +140,30 @@ module _ (d : ℕ) (𝓣 : Tested d) where
   assoc-at i j k hi hj hk =
       eqb→eq (times d (times d (2 ^ i) (2 ^ j)) (2 ^ k)) (times d (2 ^ i) (times d (2 ^ j) (2 ^ k)))
       (below d (λ z. eqb (times d (times d (2 ^ i) (2 ^ j)) (2 ^ z)) (times d (2 ^ i) (times d (2 ^ j) (2 ^ z))))
-        (below d (λ y. allBelow d λ z. eqb (times d (times d (2 ^ i) (2 ^ y)) (2 ^ z)) (times d (2 ^ i) (times d (2 ^ y) (2 ^ z))))
-          (below d (λ x. allBelow d λ y. allBelow d λ z. eqb (times d (times d (2 ^ x) (2 ^ y)) (2 ^ z)) (times d (2 ^ x) (times d (2 ^ y) (2 ^ z))))
-            (𝓣 .associate) i hi)
-          j hj)
-        k hk)
+      (below d (λ y. allBelow d λ z. eqb (times d (times d (2 ^ i) (2 ^ y)) (2 ^ z)) (times d (2 ^ i) (times d (2 ^ y) (2 ^ z))))
+      (below d (λ x. allBelow d λ y. allBelow d λ z. eqb (times d (times d (2 ^ x) (2 ^ y)) (2 ^ z)) (times d (2 ^ x) (times d (2 ^ y) (2 ^ z))))
+      (𝓣 .associate) i hi)
+      j hj)
+      k hk)
 
   assoc-third : (i j c : ℕ) → i < d → j < d → c < 2 ^ d → times d (times d (2 ^ i) (2 ^ j)) c ≡ times d (2 ^ i) (times d (2 ^ j) c)
   assoc-third i j c hi hj hc =
       agree (times d (times d (2 ^ i) (2 ^ j))) (λ x. times d (2 ^ i) (times d (2 ^ j) x)) (times-plus d (times d (2 ^ i) (2 ^ j)))
-        (λ x y. ap (times d (2 ^ i)) (times-plus d (2 ^ j) x y) ∙ times-plus d (2 ^ i) (times d (2 ^ j) x) (times d (2 ^ j) y))
-        d (λ k hk. assoc-at i j k hi hj hk) c hc
+      (λ x y. ap (times d (2 ^ i)) (times-plus d (2 ^ j) x y) ∙ times-plus d (2 ^ i) (times d (2 ^ j) x) (times d (2 ^ j) y))
+      d (λ k hk. assoc-at i j k hi hj hk) c hc
 
   assoc-second : (i b c : ℕ) → i < d → b < 2 ^ d → c < 2 ^ d → times d (times d (2 ^ i) b) c ≡ times d (2 ^ i) (times d b c)
   assoc-second i b c hi hb hc =
       agree (λ x. times d (times d (2 ^ i) x) c) (λ x. times d (2 ^ i) (times d x c))
-        (λ x y. ap (λ (z : ℕ). times d z c) (times-plus d (2 ^ i) x y) ∙ plus-times d c (times d (2 ^ i) x) (times d (2 ^ i) y))
-        (λ x y. ap (times d (2 ^ i)) (plus-times d c x y) ∙ times-plus d (2 ^ i) (times d x c) (times d y c))
-        d (λ j hj. assoc-third i j c hi hj hc) b hb
+      (λ x y. ap (λ (z : ℕ). times d z c) (times-plus d (2 ^ i) x y) ∙ plus-times d c (times d (2 ^ i) x) (times d (2 ^ i) y))
+      (λ x y. ap (times d (2 ^ i)) (plus-times d c x y) ∙ times-plus d (2 ^ i) (times d x c) (times d y c))
+      d (λ j hj. assoc-third i j c hi hj hc) b hb
 
   assoc-below : (a b c : ℕ) → a < 2 ^ d → b < 2 ^ d → c < 2 ^ d → times d (times d a b) c ≡ times d a (times d b c)
   assoc-below a b c ha hb hc =
       agree (λ x. times d (times d x b) c) (λ x. times d x (times d b c))
-        (λ x y. ap (λ (z : ℕ). times d z c) (plus-times d b x y) ∙ plus-times d c (times d x b) (times d y b))
-        (plus-times d (times d b c)) d (λ i hi. assoc-second i b c hi hb hc) a ha
+      (λ x y. ap (λ (z : ℕ). times d z c) (plus-times d b x y) ∙ plus-times d c (times d x b) (times d y b))
+      (plus-times d (times d b c)) d (λ i hi. assoc-second i b c hi hb hc) a ha
 
   pub times-assoc : (a b c : ℕ) → times d (times d a b) c ≡ times d a (times d b c)
   times-assoc a b c =
@@ -175,22 +175,22 @@ module _ (d : ℕ) (𝓣 : Tested d) where
   times-below a b =
       subst (λ (x : ℕ). x < 2 ^ d) (cut d a b)
       (closed (λ x. times d x (b % 2 ^ d)) (plus-times d (b % 2 ^ d)) d
-        (λ i hi. closed (times d (2 ^ i)) (times-plus d (2 ^ i)) d
-          (λ j hj. ltb→lt (times d (2 ^ i) (2 ^ j)) (2 ^ d)
-            (below d (λ y. ltb (times d (2 ^ i) (2 ^ y)) (2 ^ d))
-              (below d (λ x. allBelow d λ y. ltb (times d (2 ^ x) (2 ^ y)) (2 ^ d)) (𝓣 .close) i hi) j hj))
-          (b % 2 ^ d) (symbol-of b))
-        (a % 2 ^ d) (symbol-of a))
+      (λ i hi. closed (times d (2 ^ i)) (times-plus d (2 ^ i)) d
+      (λ j hj. ltb→lt (times d (2 ^ i) (2 ^ j)) (2 ^ d)
+      (below d (λ y. ltb (times d (2 ^ i) (2 ^ y)) (2 ^ d))
+      (below d (λ x. allBelow d λ y. ltb (times d (2 ^ x) (2 ^ y)) (2 ^ d)) (𝓣 .close) i hi) j hj))
+      (b % 2 ^ d) (symbol-of b))
+      (a % 2 ^ d) (symbol-of a))
 
   pub one-times : (a : ℕ) → a < 2 ^ d → times d 1 a ≡ a
   one-times a h =
       agree (times d 1) (λ x. x) (times-plus d 1) (λ x y. refl) d
-        (λ i hi. eqb→eq (times d 1 (2 ^ i)) (2 ^ i) (below d (λ x. eqb (times d 1 (2 ^ x)) (2 ^ x)) (𝓣 .unit) i hi)) a h
+      (λ i hi. eqb→eq (times d 1 (2 ^ i)) (2 ^ i) (below d (λ x. eqb (times d 1 (2 ^ x)) (2 ^ x)) (𝓣 .unit) i hi)) a h
 
   pub x-times : (a : ℕ) → a < 2 ^ d → timesX d a ≡ times d 2 a
   x-times a h =
       agree (timesX d) (times d 2) (timesX-plus d) (times-plus d 2) d
-        (λ i hi. eqb→eq (timesX d (2 ^ i)) (times d 2 (2 ^ i)) (below d (λ x. eqb (timesX d (2 ^ x)) (times d 2 (2 ^ x))) (𝓣 .move) i hi)) a h
+      (λ i hi. eqb→eq (timesX d (2 ^ i)) (times d 2 (2 ^ i)) (below d (λ x. eqb (timesX d (2 ^ x)) (times d 2 (2 ^ x))) (𝓣 .move) i hi)) a h
 
   pub zero-times : (a : ℕ) → times d 0 a ≡ 0
   zero-times a = additive-zero (λ x. times d x a) (plus-times d a)

@@ -68,6 +68,7 @@ module _ (d : ℕ) where
       where
         long : length p ≡ 2 ^ d - 1
         long = length-powers d (2 ^ d - 1) 1
+
         go : Dec (i < 2 ^ d - 1) → getD (p ++ p) i 0 ≡ power d i
         go (yes k) = List·getD-append p p 0 i (rw long k) ∙ powers-at d (2 ^ d - 1) i k
         go (no k) =
@@ -89,5 +90,5 @@ module _ (d : ℕ) (𝓖 : Generated d) where
   quotient-is {a} {b} {i} {j} p q h n =
       sym
       (over-unique d 𝓖 a b (power d (i + (2 ^ d - 1 - j))) h (power-below d 𝓖 (i + (2 ^ d - 1 - j))) n
-        (ap (times d (power d (i + (2 ^ d - 1 - j)))) (sym (q .raised)) ∙ power-add d 𝓖 (i + (2 ^ d - 1 - j)) j
-          ∙ ap (power d) (add-assoc i (2 ^ d - 1 - j) j ∙ ap (_+_ i) (sub-add-cancel (le-of-lt (q .within)))) ∙ power-round d 𝓖 i ∙ p .raised))
+      (ap (times d (power d (i + (2 ^ d - 1 - j)))) (sym (q .raised)) ∙ power-add d 𝓖 (i + (2 ^ d - 1 - j)) j
+      ∙ ap (power d) (add-assoc i (2 ^ d - 1 - j) j ∙ ap (_+_ i) (sub-add-cancel (le-of-lt (q .within)))) ∙ power-round d 𝓖 i ∙ p .raised))

@@ -28,6 +28,7 @@ differ-assoc x y z hx hy hz = go (bit-cases x hx) (bit-cases y hy) (bit-cases z 
   where
     P : ℕ → ℕ → ℕ → Type 0
     P x y z = differ (differ x y) z ≡ differ x (differ y z)
+
     go : (x ≡ 0) ⊎ (x ≡ 1) → (y ≡ 0) ⊎ (y ≡ 1) → (z ≡ 0) ⊎ (z ≡ 1) → P x y z
     go (inl p) (inl q) (inl r) = rw (p, q, r)
     go (inl p) (inl q) (inr r) = rw (p, q, r)
@@ -63,11 +64,11 @@ xor-assoc : (a b c : ℕ) → bitXor (bitXor a b) c ≡ bitXor a (bitXor b c)
 xor-assoc =
     bin-ind (λ (n : ℕ). (b c : ℕ) → bitXor (bitXor n b) c ≡ bitXor n (bitXor b c)) (λ b c. refl)
     (λ n ih b c.
-        xor-step (bitXor n b) c
-        ∙ ap₂ (λ (h l : ℕ). h * 2 + l)
-            (ap (λ (h : ℕ). bitXor h (c / 2)) (half-of n b) ∙ ih (b / 2) (c / 2) ∙ ap (bitXor (n / 2)) (sym (half-of b c)))
-            (ap (λ (l : ℕ). differ l (c % 2)) (bit-differs n b) ∙ differ-assoc (n % 2) (b % 2) (c % 2) (bit-lt n) (bit-lt b) (bit-lt c) ∙ ap (differ (n % 2)) (sym (bit-differs b c)))
-        ∙ sym (xor-step n (bitXor b c)))
+    xor-step (bitXor n b) c
+    ∙ ap₂ (λ (h l : ℕ). h * 2 + l)
+    (ap (λ (h : ℕ). bitXor h (c / 2)) (half-of n b) ∙ ih (b / 2) (c / 2) ∙ ap (bitXor (n / 2)) (sym (half-of b c)))
+    (ap (λ (l : ℕ). differ l (c % 2)) (bit-differs n b) ∙ differ-assoc (n % 2) (b % 2) (c % 2) (bit-lt n) (bit-lt b) (bit-lt c) ∙ ap (differ (n % 2)) (sym (bit-differs b c)))
+    ∙ sym (xor-step n (bitXor b c)))
 
 pub plus-comm : (a b : ℕ) → plus a b ≡ plus b a
 unfolding plus
@@ -157,7 +158,7 @@ module _ (f g : ℕ → ℕ) (af : Additive f) (ag : Additive g) where
   agree (suc d) e a h =
       ap f (top d a) ∙ af (a / 2 ^ d * 2 ^ d) (a % 2 ^ d)
       ∙ ap₂ plus (at-top (2 ^ d) (a / 2 ^ d) (e d (omega arith)) (shr-lt 1 d (rw (← (one-more d)) h)))
-          (agree d (λ i k. e i (omega arith)) (a % 2 ^ d) (mod-lt a (pow-pos d)))
+      (agree d (λ i k. e i (omega arith)) (a % 2 ^ d) (mod-lt a (pow-pos d)))
       ∙ sym (ag (a / 2 ^ d * 2 ^ d) (a % 2 ^ d)) ∙ ap g (sym (top d a))
     where
       one-more : (n : ℕ) → suc n ≡ 1 + n

@@ -11,7 +11,6 @@ ghost use Rattle.field.specs.Symbols.{plus, modulus, timesX, times};
 ghost use Rattle.field.specs.Tables.{IsTable, Exponent};
 ghost use Rattle.field.specs.Combining.{doublings, combined, Reducer};
 ghost use Rattle.field.specs.Lists.{scaled, added, multiplied, SymbolsAt};
-
 use crate::tables::LENT;
 use crate::tables::exponent_from;
 use crate::tables::power_from;
@@ -77,8 +76,7 @@ fn combine(r: &[u8; 8], s: u8) -> u8
             ^ (masked(s2 % 2, r[2])
                 ^ (masked(s3 % 2, r[3])
                     ^ (masked(s4 % 2, r[4])
-                        ^ (masked(s5 % 2, r[5])
-                            ^ (masked(s6 % 2, r[6]) ^ masked(s7 % 2, r[7])))))))
+                        ^ (masked(s5 % 2, r[5]) ^ (masked(s6 % 2, r[6]) ^ masked(s7 % 2, r[7])))))))
 }
 
 // Adds to the part of s at `into` the combined part at `from`, n symbols each.
@@ -107,7 +105,15 @@ fn combine_all(r: &[u8; 8], s: &mut [u8], at: usize, n: usize)
 }
 
 // For the crates above: adds c times the part of s at `from` to its part at `into`, n symbols each.
-pub fn add_times(table: &[u8; LENT], degree: u32, c: u8, s: &mut [u8], from: usize, into: usize, n: usize)
+pub fn add_times(
+    table: &[u8; LENT],
+    degree: u32,
+    c: u8,
+    s: &mut [u8],
+    from: usize,
+    into: usize,
+    n: usize,
+)
     requires { ⌜ (badDegree degree ≡ false) × IsTable degree (now table) × (c < 2 ^ degree) ⌝ }
     requires { ⌜ (from + n ≤ length (now s)) × (into + n ≤ length (now s)) ⌝ }
     requires { ⌜ (from + n ≤ into) ⊎ (into + n ≤ from) ⌝ }

@@ -12,18 +12,7 @@ ghost use Rattle.field.specs.Tables.{power, IsTable, Exponent};
 // How long a lent table is, whichever the field.
 pub const LENT: usize = 766;
 
-const GF4: [u8; 10] = [
-    3,
-    0,
-    1,
-    2,
-    1,
-    2,
-    3,
-    1,
-    2,
-    3,
-];
+const GF4: [u8; 10] = [3, 0, 1, 2, 1, 2, 3, 1, 2, 3];
 
 const GF16: [u8; 46] = [
     15,

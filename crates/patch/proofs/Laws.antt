@@ -70,4 +70,4 @@ module _ {A : Type 0} (at i : ℕ) (f : ℕ → A) (l : List A) {s : List A} (is
   aside d from n h a =
       ap (λ (t : List A). getD t (from + i) d) is
       ∙ ⊎-elim (λ (k : from + n ≤ at). patch-below at f l i (from + i) d (omega arith))
-          (λ (k : at + n ≤ from). patch-above at f l i (from + i) d (omega arith)) a
+      (λ (k : at + n ≤ from). patch-above at f l i (from + i) d (omega arith)) a

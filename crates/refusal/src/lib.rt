@@ -19,9 +19,5 @@ pub fn bad_degree(degree: u32) -> bool
 pub fn outside_field(degree: u32, a: u8) -> bool
     ensures { λ r. ⌜ r ≡ outsideField degree a ⌝ }
 {
-    if degree < 8 {
-        0 < a >> degree
-    } else {
-        false
-    }
+    if degree < 8 { 0 < a >> degree } else { false }
 }

@@ -16,7 +16,7 @@ lend-requires : tie.Need-lend-requires
 lend-requires c κs = passed _ _ _ (sym (c .if1 .left) ∙ c .before .first-refusal .ensures) .degree
 
 product-from-requires : tie.Need-product-from-requires
-product-from-requires c κs = 
+product-from-requires c κs =
     let ok = passed _ _ _ (sym (c .before .before .if1 .left) ∙ c .before .before .before .first-refusal .ensures) in
     (ok .degree, (c .before .lend .ensures, (ok .left, ok .right)))
 

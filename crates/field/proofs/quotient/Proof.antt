@@ -14,14 +14,14 @@ returns : tie.Need-returns
 returns c = refuses _ _ (c .before .first-refusal .ensures) (c .if1 .taken)
 
 returns-2 : tie.Need-returns-2
-returns-2 c = 
+returns-2 c =
     gives _ _ (sym (c .before .if1 .left) ∙ c .before .before .first-refusal .ensures) (rw (c .if2 .taken) (sym (over-zero _ _)))
 
 lend-requires : tie.Need-lend-requires
 lend-requires c κs = passed _ _ _ (sym (c .before .if1 .left) ∙ c .before .before .first-refusal .ensures) .degree
 
 quotient-from-requires : tie.Need-quotient-from-requires
-quotient-from-requires c κs = 
+quotient-from-requires c κs =
     let ok = passed _ _ _ (sym (c .before .before .before .if1 .left) ∙ c .before .before .before .before .first-refusal .ensures) in
     (ok .degree, (c .before .lend .ensures, ((ok .left, ok .right), c .before .before .if2 .left)))
 

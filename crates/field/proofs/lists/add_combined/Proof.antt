@@ -9,7 +9,6 @@ use Rattle.patch.specs.Patch.{patch}
 use Rattle.patch.proofs.Laws.{patch-none, length-patch, patch-step, here, aside}
 use Rattle.field.specs.Symbols.{plus}
 use Rattle.field.specs.Combining.{combined}
-
 -- Assumes nothing.
 
 use borrow.Author.Needs.{needs}
@@ -32,14 +31,14 @@ add-s : tie.Need-add-s Inv-loop μ-loop
 add-s c = search needs
 
 slice-read-s : tie.Need-slice-read-s Inv-loop μ-loop
-slice-read-s c = 
+slice-read-s c =
     rw (c .before .before .loop .inv .1) (rw length-patch (omega (arith, c .before .before .before .before .pre .0 .1)))
 
 add-combine : tie.Need-add-combine Inv-loop μ-loop
 add-combine c = search needs
 
 slice-read-combine : tie.Need-slice-read-combine Inv-loop μ-loop
-slice-read-combine c = 
+slice-read-combine c =
     rw (c .before .before .before .loop .inv .1) (rw length-patch (omega (arith, c .before .before .before .before .before .pre .0 .0)))
 
 combine-requires : tie.Need-combine-requires Inv-loop μ-loop
@@ -49,7 +48,7 @@ add-s-2 : tie.Need-add-s-2 Inv-loop μ-loop
 add-s-2 c = search needs
 
 slice-write-s : tie.Need-slice-write-s Inv-loop μ-loop
-slice-write-s c = 
+slice-write-s c =
     rw (c .before .before .before .before .loop .inv .1) (rw length-patch (omega (arith, c .before .before .before .before .before .before .pre .0 .1)))
 
 add-i : tie.Need-add-i Inv-loop μ-loop
@@ -60,21 +59,21 @@ loop-less c = search needs
 
 loop-again : tie.Need-loop-again Inv-loop μ-loop
 unfolding plus
-loop-again c = 
+loop-again c =
     let turn = c .before .before .before .before in
     let inv = turn .loop .inv .1 in
-    let start = turn .before .before in
-    ( search needs
-    , patch-step _ _ _ _ inv
-      (ap₂ plus (here _ _ _ _ inv 0)
-        (c .combine .ensures ∙ ap (combined _) (aside _ _ _ _ inv 0 _ _ (c .before .before .before .loop-test .taken) (start .pre .1))))
+    let start = turn .before .before in (
+      search needs,
+      patch-step _ _ _ _ inv
+          (ap₂ plus (here _ _ _ _ inv 0)
+          (c .combine .ensures ∙ ap (combined _) (aside _ _ _ _ inv 0 _ _ (c .before .before .before .loop-test .taken) (start .pre .1)))),
     )
 
 same-length : tie.Need-same-length Inv-loop μ-loop
 same-length c = rw (c .before .loop .inv .1) (length-patch _ _ _ _)
 
 returns : tie.Need-returns Inv-loop μ-loop
-returns c = 
+returns c =
     let whole : c .before .loop .i ≡ c .before .before .before .args .n = omega arith in
     rw (← whole) (c .before .loop .inv .1)
 

@@ -22,12 +22,12 @@ same-length c = search needs
 
 returns : tie.Need-returns
 unfolding added
-returns c = 
+returns c =
     let start = c .before .before .before .before .before .before .before in
     c .before .before .add-combined .ensures
     ∙ patch-cong _ _ _ _ _
-      (λ k h. ap (plus _)
-        (rw (c .before .before .before .before .before .doublings-of .ensures) (combined-times _ _ _ (omega (arith, c .before .before .before .before .before .before .slice-known .given (start .args .from + k))))))
+    (λ k h. ap (plus _)
+    (rw (c .before .before .before .before .before .doublings-of .ensures) (combined-times _ _ _ (omega (arith, c .before .before .before .before .before .before .slice-known .given (start .args .from + k))))))
 
 pub add-times-spec : {M : Type 1} → statement M
 add-times-spec =

@@ -18,7 +18,7 @@ double-requires c κs = search needs
 
 returns : tie.Need-returns
 unfolding plus
-returns c = 
+returns c =
     let start = c .before .before in
     let g = generated _ (start .pre .0 .0) in
     let is = ap₂ bitXor (c .before .masked .ensures) (c .double .ensures) in

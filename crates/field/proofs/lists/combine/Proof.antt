@@ -58,15 +58,15 @@ masked-requires-8 c κs = search needs
 
 returns : tie.Need-returns
 unfolding combinedFrom plus
-returns c = 
+returns c =
     ap₂ bitXor (c .before .before .before .before .before .before .before .before .before .before .before .before .before .before .masked .ensures)
-      (ap₂ bitXor (c .before .before .before .before .before .before .before .before .before .before .before .before .masked2 .ensures)
-      (ap₂ bitXor (c .before .before .before .before .before .before .before .before .before .before .masked3 .ensures)
-      (ap₂ bitXor (c .before .before .before .before .before .before .before .before .masked4 .ensures)
-      (ap₂ bitXor (c .before .before .before .before .before .before .masked5 .ensures)
-      (ap₂ bitXor (c .before .before .before .before .masked6 .ensures)
-      (ap₂ bitXor (c .before .before .masked7 .ensures)
-      (c .masked8 .ensures ∙ sym (xor-zero-r _))))))))
+    (ap₂ bitXor (c .before .before .before .before .before .before .before .before .before .before .before .before .masked2 .ensures)
+    (ap₂ bitXor (c .before .before .before .before .before .before .before .before .before .before .masked3 .ensures)
+    (ap₂ bitXor (c .before .before .before .before .before .before .before .before .masked4 .ensures)
+    (ap₂ bitXor (c .before .before .before .before .before .before .masked5 .ensures)
+    (ap₂ bitXor (c .before .before .before .before .masked6 .ensures)
+    (ap₂ bitXor (c .before .before .masked7 .ensures)
+    (c .masked8 .ensures ∙ sym (xor-zero-r _))))))))
 
 pub combine-spec : {M : Type 1} → statement M
 combine-spec =

@@ -8,7 +8,6 @@ use lib.ListN.{getD}
 use Rattle.patch.specs.Patch.{patch}
 use Rattle.patch.proofs.Laws.{patch-none, length-patch, patch-step, here}
 use Rattle.field.specs.Combining.{combined}
-
 -- Assumes nothing.
 
 use borrow.Author.Needs.{needs}
@@ -31,7 +30,7 @@ add-combine : tie.Need-add-combine Inv-loop μ-loop
 add-combine c = search needs
 
 slice-read-combine : tie.Need-slice-read-combine Inv-loop μ-loop
-slice-read-combine c = 
+slice-read-combine c =
     rw (c .before .before .loop .inv .1) (rw length-patch (omega (arith, c .before .before .before .before .pre)))
 
 combine-requires : tie.Need-combine-requires Inv-loop μ-loop
@@ -41,7 +40,7 @@ add-s : tie.Need-add-s Inv-loop μ-loop
 add-s c = search needs
 
 slice-write-s : tie.Need-slice-write-s Inv-loop μ-loop
-slice-write-s c = 
+slice-write-s c =
     rw (c .before .before .before .loop .inv .1) (rw length-patch (omega (arith, c .before .before .before .before .before .pre)))
 
 add-i : tie.Need-add-i Inv-loop μ-loop
@@ -51,7 +50,7 @@ loop-less : tie.Need-loop-less Inv-loop μ-loop
 loop-less c = search needs
 
 loop-again : tie.Need-loop-again Inv-loop μ-loop
-loop-again c = 
+loop-again c =
     let inv = c .before .before .before .loop .inv .1 in
     (search needs, patch-step _ _ _ _ inv (c .combine .ensures ∙ ap (combined _) (here _ _ _ _ inv 0)))
 
@@ -59,7 +58,7 @@ same-length : tie.Need-same-length Inv-loop μ-loop
 same-length c = rw (c .before .loop .inv .1) (length-patch _ _ _ _)
 
 returns : tie.Need-returns Inv-loop μ-loop
-returns c = 
+returns c =
     let whole : c .before .loop .i ≡ c .before .before .before .args .n = omega arith in
     rw (← whole) (c .before .loop .inv .1)
 

@@ -12,13 +12,13 @@ use Rattle.field.proofs.lists.double.Statement.{statement}
 use Rattle.field.proofs.lists.double.Tie as tie
 
 returns : tie.Need-returns
-returns c = 
+returns c =
     let p = c .before .pre in
     doubled-small _ (generated _ (p .0)) _ (up-to-eight _ (p .0)) (p .2) (rw (p .1 .top) at (c .if1 .taken))
 
 returns-2 : tie.Need-returns-2
 unfolding plus
-returns-2 c = 
+returns-2 c =
     let p = c .before .pre in
     rw (p .1 .rest)
     (doubled-large _ (generated _ (p .0)) _ (up-to-eight _ (p .0)) (p .2) (positive _ (p .0)) (rw (p .1 .top) at (c .if1 .left)))

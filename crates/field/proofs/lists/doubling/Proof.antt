@@ -12,21 +12,21 @@ use Rattle.field.proofs.lists.doubling.Statement.{statement}
 use Rattle.field.proofs.lists.doubling.Tie as tie
 
 returns : tie.Need-returns
-returns c = 
+returns c =
     let g = generated _ (c .before .pre .0) in
     sym (times-high _ (g .tested) _ _ (c .if1 .taken))
 
 add-power-from : tie.Need-add-power-from
-add-power-from c = 
+add-power-from c =
     omega (arith, c .before .pre .1 .1 .within, c .if1 .left, field-size _ (c .before .pre .0), up-to-eight _ (c .before .pre .0))
 
 power-from-requires : tie.Need-power-from-requires
-power-from-requires c κs = 
+power-from-requires c κs =
     let within = degree-within _ (generated _ (c .before .pre .0)) in
     (c .before .pre .0, (c .before .pre .1 .0, omega (arith, c .before .pre .1 .1 .within, c .if1 .left, within)))
 
 returns-2 : tie.Need-returns-2
-returns-2 c = 
+returns-2 c =
     let g = generated _ (c .before .before .pre .0) in
     c .power-from .ensures ∙ product-is _ g (power-small _ g _ (c .before .if1 .left)) (c .before .before .pre .1 .1)
 

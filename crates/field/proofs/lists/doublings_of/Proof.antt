@@ -9,7 +9,7 @@ use Rattle.field.proofs.lists.doublings_of.Statement.{statement}
 use Rattle.field.proofs.lists.doublings_of.Tie as tie
 
 returns : tie.Need-returns
-returns c = 
+returns c =
     let g = generated _ (c .before .pre .0) in
     rw (c .if1 .taken) (sym (doublings-zero _ (g .tested) 0 8))
 

@@ -13,7 +13,7 @@ use Rattle.field.proofs.lists.low_bits.Statement.{statement}
 use Rattle.field.proofs.lists.low_bits.Tie as tie
 
 power-from-requires : tie.Need-power-from-requires
-power-from-requires c κs = 
+power-from-requires c κs =
     (c .pre .0, (c .pre .1, omega (arith, degree-within _ (generated _ (c .pre .0)), positive _ (c .pre .0))))
 
 size-requires : tie.Need-size-requires
@@ -24,7 +24,7 @@ cast-result c = search needs
 
 returns : tie.Need-returns
 unfolding plus
-returns c = 
+returns c =
     let start = c .before .before in
     ap₂ bitXor (c .before .power-from .ensures) (ap (λ (x : ℕ). x % 256) (c .size .ensures))
     ∙ power-degree _ (generated _ (start .pre .0)) (up-to-eight _ (start .pre .0))

@@ -12,7 +12,7 @@ returns : tie.Need-returns
 returns c = rw (c .if1 .taken) (sym (zero-mul _))
 
 returns-2 : tie.Need-returns-2
-returns-2 c = 
+returns-2 c =
     let one : c .before .args .bit ≡ 1 = omega (arith, c .before .pre, c .if1 .left) in
     rw one (sym (one-mul _))
 

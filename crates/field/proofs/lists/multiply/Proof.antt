@@ -19,15 +19,16 @@ low-bits-requires : tie.Need-low-bits-requires
 low-bits-requires c κs = search needs
 
 multiply-by-bits-requires : tie.Need-multiply-by-bits-requires
-multiply-by-bits-requires c κs = 
+multiply-by-bits-requires c κs =
     let start = c .before .before .before .before .before in
-    let p = start .pre in
-    ( ( p .0 .0
-      , record { top = ap (λ (x : ℕ). x / 2) (c .before .before .size .ensures) ∙ half-size _ (positive _ (p .0 .0)); rest = c .before .low-bits .ensures }
-      , p .0 .2
-      , p .0 .3
-      )
-    , p .1
+    let p = start .pre in (
+      (
+        p .0 .0,
+        record { top = ap (λ (x : ℕ). x / 2) (c .before .before .size .ensures) ∙ half-size _ (positive _ (p .0 .0)); rest = c .before .low-bits .ensures },
+        p .0 .2,
+        p .0 .3,
+      ),
+      p .1,
     )
 
 same-length : tie.Need-same-length

@@ -39,26 +39,27 @@ add-product-by-bits : tie.Need-add-product-by-bits Inv-loop μ-loop
 add-product-by-bits c = search needs
 
 slice-read-product-by-bits : tie.Need-slice-read-product-by-bits Inv-loop μ-loop
-slice-read-product-by-bits c = 
+slice-read-product-by-bits c =
     rw (c .before .before .before .loop .inv .1) (rw length-patch (omega (arith, c .before .before .loop-test .taken, c .before .before .before .before .before .before .pre .1 .0)))
 
 product-by-bits-requires : tie.Need-product-by-bits-requires Inv-loop μ-loop
 unfolding plus
-product-by-bits-requires c κs = 
+product-by-bits-requires c κs =
     let start = c .before .before .before .before .before .before in
     let i = c .before .before .before .loop .i in
-    let h = c .before .before .loop-test .taken in
-    ( (start .pre .0 .0, start .pre .0 .1)
-    , ( plus-below _ _ _ (as-before (ap (λ (x : ℕ). getD (start .args .w .now) x 0) (sym (zero-add i))) (start .pre .1 .1 .0 i h)) (start .pre .0 .2)
-      , plus-below _ _ _ (as-before (here _ _ _ _ (c .before .before .before .loop .inv .1) 0) (start .pre .1 .1 .1 i h)) (start .pre .0 .3)
-      )
+    let h = c .before .before .loop-test .taken in (
+      (start .pre .0 .0, start .pre .0 .1),
+      (
+        plus-below _ _ _ (as-before (ap (λ (x : ℕ). getD (start .args .w .now) x 0) (sym (zero-add i))) (start .pre .1 .1 .0 i h)) (start .pre .0 .2),
+        plus-below _ _ _ (as-before (here _ _ _ _ (c .before .before .before .loop .inv .1) 0) (start .pre .1 .1 .1 i h)) (start .pre .0 .3),
+      ),
     )
 
 add-s : tie.Need-add-s Inv-loop μ-loop
 add-s c = search needs
 
 slice-write-s : tie.Need-slice-write-s Inv-loop μ-loop
-slice-write-s c = 
+slice-write-s c =
     rw (c .before .before .before .before .loop .inv .1) (rw length-patch (omega (arith, c .before .before .before .loop-test .taken, c .before .before .before .before .before .before .before .pre .1 .0)))
 
 add-i : tie.Need-add-i Inv-loop μ-loop
@@ -69,17 +70,17 @@ loop-less c = search needs
 
 loop-again : tie.Need-loop-again Inv-loop μ-loop
 unfolding plus
-loop-again c = 
-    let inv = c .before .before .before .before .loop .inv .1 in
-    ( omega (arith, c .before .before .before .loop-test .taken)
-    , patch-step _ _ _ _ inv (multiplied-is _ _ _ _ _ _ _ (c .product-by-bits .ensures) (here _ _ _ _ inv 0))
+loop-again c =
+    let inv = c .before .before .before .before .loop .inv .1 in (
+      omega (arith, c .before .before .before .loop-test .taken),
+      patch-step _ _ _ _ inv (multiplied-is _ _ _ _ _ _ _ (c .product-by-bits .ensures) (here _ _ _ _ inv 0)),
     )
 
 same-length : tie.Need-same-length Inv-loop μ-loop
 same-length c = rw (c .before .loop .inv .1) (length-patch _ _ _ _)
 
 returns : tie.Need-returns Inv-loop μ-loop
-returns c = 
+returns c =
     let whole : c .before .loop .i ≡ length (c .before .before .before .before .args .w .now) = omega arith in
     rw (← whole) (c .before .loop .inv .1)
 

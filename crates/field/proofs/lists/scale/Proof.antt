@@ -21,11 +21,11 @@ same-length c = search needs
 
 returns : tie.Need-returns
 unfolding scaled
-returns c = 
+returns c =
     let start = c .before .before .before .before .before .before .before in
     c .before .before .combine-all .ensures
     ∙ patch-cong _ _ _ _ _
-      (λ k h. rw (c .before .before .before .before .before .doublings-of .ensures) (combined-times _ _ _ (omega (arith, c .before .before .before .before .before .before .slice-known .given (start .args .at + k)))))
+    (λ k h. rw (c .before .before .before .before .before .doublings-of .ensures) (combined-times _ _ _ (omega (arith, c .before .before .before .before .before .before .slice-known .given (start .args .at + k)))))
 
 pub scale-spec : {M : Type 1} → statement M
 scale-spec = tie.close (tie.spec doublings-of-requires combine-all-requires same-length returns)

@@ -17,7 +17,7 @@ wide-requires-2 : tie.Need-wide-requires-2
 wide-requires-2 c κs = search needs
 
 returns : tie.Need-returns
-returns c = 
+returns c =
     let start = c .before .before .before in
     rw (c .wide2 .ensures, c .before .before .wide .ensures)
     (exponent-is _ (generated _ (start .pre .0)) _ (start .pre .1 .0) _ (start .pre .1 .1 .0) (start .pre .1 .1 .1))

@@ -19,7 +19,7 @@ element-copy-out-result : tie.Need-element-copy-out-result
 element-copy-out-result c = omega (arith, c .size .ensures, field-size (c .before .args .degree) (c .before .pre .0))
 
 returns : tie.Need-returns
-returns c = 
+returns c =
     let start = c .before .before in
     rw (c .before .size .ensures)
     (power-at _ _ (start .pre .1 .0) (generated _ (start .pre .0)) _ (start .pre .1 .1))

@@ -11,12 +11,12 @@ use Rattle.field.proofs.tables.product_from.Statement.{statement}
 use Rattle.field.proofs.tables.product_from.Tie as tie
 
 returns : tie.Need-returns
-returns c = 
+returns c =
     let g = generated _ (c .before .pre .0) in
     rw (c .if1 .taken) (sym (zero-times _ (g .tested) _))
 
 returns-2 : tie.Need-returns-2
-returns-2 c = 
+returns-2 c =
     let g = generated _ (c .before .before .pre .0) in
     rw (c .if2 .taken) (sym (times-comm _ (g .tested) _ 0 ∙ zero-times _ (g .tested) _))
 
@@ -27,14 +27,14 @@ exponent-from-requires-2 : tie.Need-exponent-from-requires-2
 exponent-from-requires-2 c κs = search needs
 
 add-power-from : tie.Need-add-power-from
-add-power-from c = 
+add-power-from c =
     omega (arith, c .before .exponent-from .ensures .within, c .exponent-from2 .ensures .within, field-size _ (c .before .before .before .before .pre .0))
 
 power-from-requires : tie.Need-power-from-requires
 power-from-requires c κs = search needs
 
 returns-3 : tie.Need-returns-3
-returns-3 c = 
+returns-3 c =
     c .power-from .ensures
     ∙ product-is _ (generated _ (c .before .before .before .before .before .pre .0)) (c .before .before .exponent-from .ensures) (c .before .exponent-from2 .ensures)
 

@@ -1,0 +1,76 @@
+/* Makes the stored input and output of the program `arithmetic`: every pair of GF(4) and GF(16), a sample of GF(256), and
+ * refused calls. Products by shift and exclusive or from the polynomials of 01, quotients by search: no table, and nothing of the
+ * proved code.
+ *
+ *   arithmetic in FILE    writes the input
+ *   arithmetic out FILE   writes the answers
+ */
+#include <stdio.h>
+#include <string.h>
+
+static unsigned modulus(unsigned degree)
+{
+    return degree == 2 ? 0x7 : degree == 4 ? 0x13 : 0x11D;
+}
+
+static unsigned product(unsigned degree, unsigned a, unsigned b)
+{
+    unsigned whole = 0;
+    for (unsigned i = 0; i < degree; i++)
+        if (b >> i & 1)
+            whole ^= a << i;
+    for (unsigned i = 2 * degree; i >= degree; i--)
+        if (whole >> i & 1)
+            whole ^= modulus(degree) << (i - degree);
+    return whole;
+}
+
+static unsigned quotient(unsigned degree, unsigned a, unsigned b)
+{
+    if (b != 0)
+        for (unsigned c = 0; c < 1u << degree; c++)
+            if (product(degree, c, b) == a)
+                return c;
+    return 0;
+}
+
+static void one(FILE *to, int wants_input, unsigned degree, unsigned a, unsigned b)
+{
+    if (wants_input) {
+        fputc((int)degree, to);
+        fputc((int)a, to);
+        fputc((int)b, to);
+        return;
+    }
+    int refused = degree != 2 && degree != 4 && degree != 8 ? 1 : a >> degree || b >> degree ? 7 : 0;
+    if (refused)
+        fprintf(to, "!%d !%d !%d\n", refused, refused, refused);
+    else
+        fprintf(to, "%u %u %u\n", a ^ b, product(degree, a, b), quotient(degree, a, b));
+}
+
+int main(int argc, char **argv)
+{
+    if (argc != 3 || (strcmp(argv[1], "in") && strcmp(argv[1], "out"))) {
+        fprintf(stderr, "usage: arithmetic in|out FILE\n");
+        return 2;
+    }
+    int wants_input = !strcmp(argv[1], "in");
+    FILE *to = fopen(argv[2], "wb");
+    if (!to) {
+        perror(argv[2]);
+        return 1;
+    }
+    for (unsigned degree = 2; degree <= 4; degree += 2)
+        for (unsigned a = 0; a < 1u << degree; a++)
+            for (unsigned b = 0; b < 1u << degree; b++)
+                one(to, wants_input, degree, a, b);
+    for (unsigned a = 0; a < 256; a++)
+        for (unsigned k = 0; k < 24; k++)
+            one(to, wants_input, 8, a, (a * 37 + k * 11 + (k == 0 ? 0 : a)) % 256);
+    one(to, wants_input, 8, 128, 2);
+    for (unsigned degree = 0; degree < 12; degree++)
+        for (unsigned k = 0; k < 4; k++)
+            one(to, wants_input, degree, k & 1 ? 255 : 3, k & 2 ? 16 : 1);
+    return fclose(to) ? 1 : 0;
+}
