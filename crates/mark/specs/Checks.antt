@@ -1,0 +1,51 @@
+-- The checks of the calls on interleaved arrays, in order: 01, 'Refusal numbers, in order of checking'.
+--
+--   codeChecks c          1 to 4, before the lengths of the buffers
+--   encodeChecks, readChecks, decodeChecks    'Encoding checks 1 to 7, reading 1 to 7 then 9, decoding 1 to 8.'
+use mathlib.Core.Bool.{Bool, not, _||_}
+use mathlib.Core.List.{List, [], _∷_, _++_}
+use Prim.Native.Nat.{ℕ, _*_}
+use lib.Dec.{eqb, ltb}
+use lib.ListN.{length}
+use Rattle.refusal.specs.Refusal.{Check, _when_, badDegree, outside, someOutside, badPoints, someOutsideField}
+use Rattle.mark.specs.Code.{Code, columns, rows, total, jointLimit}
+
+abbrev pub codeChecks : Code → List Check
+codeChecks c =
+    (1 when badDegree (c .degree))
+    ∷ (2 when outside 1 4 (rows c))
+    ∷ (3 when outside 1 96 (columns c))
+    ∷ (4 when someOutside 1 (columns c) (c .lengths))
+    ∷ []
+
+-- a buffer's length is not the right one
+abbrev pub wrongLength : ℕ → List ℕ → Bool
+wrongLength n l = not (eqb (length l) n)
+
+-- 'working space at least 49,152'
+abbrev pub spaceBytes : ℕ
+spaceBytes = 49152
+
+-- 5, 6 and 7 of a message and an array, of which the symbols s are the input
+abbrev pub bufferChecks : Code → List ℕ → List ℕ → List ℕ → List Check
+bufferChecks c m a s =
+    (5 when wrongLength (total (c .lengths)) m || wrongLength (rows c * columns c) a)
+    ∷ (6 when badPoints (c .degree) (c .points))
+    ∷ (7 when someOutsideField (c .degree) s)
+    ∷ []
+
+abbrev pub encodeChecks : Code → List ℕ → List ℕ → List Check
+encodeChecks c m a = codeChecks c ++ bufferChecks c m a m
+
+-- 9 is no test of numbers: see the promise of reading
+abbrev pub readChecks : Code → List ℕ → List ℕ → List Check
+readChecks c a m = codeChecks c ++ bufferChecks c m a a
+
+abbrev pub decodeChecks : Code → ℕ → List ℕ → List ℕ → List ℕ → List ℕ → List Check
+decodeChecks c τ y a f w =
+    codeChecks c
+    ++ (5 when wrongLength (rows c * columns c) y || wrongLength (rows c * columns c) a || wrongLength (columns c) f || ltb (length w) spaceBytes)
+    ∷ (6 when badPoints (c .degree) (c .points))
+    ∷ (7 when someOutsideField (c .degree) y)
+    ∷ (8 when ltb (jointLimit c) τ)
+    ∷ []

@@ -1,0 +1,1 @@
+// Interleaved Reed-Solomon arrays: encoding and reading.

@@ -1,0 +1,10 @@
+pub mod Ring
+pub mod Sums
+pub mod Products
+pub mod Values
+pub mod Division
+pub mod Roots
+pub mod Locators
+pub mod Differences
+pub mod OneOff
+pub mod Newton
