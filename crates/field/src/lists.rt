@@ -2,7 +2,6 @@
 // of two parts, symbol by symbol. Their bodies have no table to look up, so that they vectorise.
 ghost use mathlib.Core.Path.{_≡_};
 ghost use mathlib.Core.Bool.{false};
-ghost use mathlib.Core.Logic.{_⊎_};
 ghost use Prim.Native.Nat.{ℕ, _+_, _-_, _*_, _/_, _%_, _^_, _≤_, _<_};
 ghost use lib.ListN.{length, getD};
 ghost use Rattle.patch.specs.Patch.{patch};
@@ -79,15 +78,14 @@ fn combine(r: &[u8; 8], s: u8) -> u8
                         ^ (masked(s5 % 2, r[5]) ^ (masked(s6 % 2, r[6]) ^ masked(s7 % 2, r[7])))))))
 }
 
-// Adds to the part of s at `into` the combined part at `from`, n symbols each.
-fn add_combined(r: &[u8; 8], s: &mut [u8], from: usize, into: usize, n: usize)
-    requires { ⌜ (from + n ≤ length (now s)) × (into + n ≤ length (now s)) ⌝ }
-    requires { ⌜ (from + n ≤ into) ⊎ (into + n ≤ from) ⌝ }
-    ensures { λ _. ⌜ now (s .exit) ≡ patch into n (λ k. plus (getD (now (s .entry)) (into + k) 0) (combined (now (r .entry)) (getD (now (s .entry)) (from + k) 0))) (now (s .entry)) ⌝ }
+// Adds the combined symbols of w to the part of s at `at`.
+fn add_combined(r: &[u8; 8], w: &[u8], s: &mut [u8], at: usize)
+    requires { ⌜ at + length (now w) ≤ length (now s) ⌝ }
+    ensures { λ _. ⌜ now (s .exit) ≡ patch at (length (now (w .entry))) (λ k. plus (getD (now (s .entry)) (at + k) 0) (combined (now (r .entry)) (getD (now (w .entry)) k 0))) (now (s .entry)) ⌝ }
 {
     let mut i = 0;
-    while i < n {
-        s[into + i] = s[into + i] ^ combine(r, s[from + i]);
+    while i < w.len() {
+        s[at + i] = s[at + i] ^ combine(r, w[i]);
         i += 1;
     }
 }
@@ -104,23 +102,14 @@ fn combine_all(r: &[u8; 8], s: &mut [u8], at: usize, n: usize)
     }
 }
 
-// For the crates above: adds c times the part of s at `from` to its part at `into`, n symbols each.
-pub fn add_times(
-    table: &[u8; LENT],
-    degree: u32,
-    c: u8,
-    s: &mut [u8],
-    from: usize,
-    into: usize,
-    n: usize,
-)
+// For the crates above: adds c times the symbols of w to the part of s at `at`.
+pub fn add_times(table: &[u8; LENT], degree: u32, c: u8, w: &[u8], s: &mut [u8], at: usize)
     requires { ⌜ (badDegree degree ≡ false) × IsTable degree (now table) × (c < 2 ^ degree) ⌝ }
-    requires { ⌜ (from + n ≤ length (now s)) × (into + n ≤ length (now s)) ⌝ }
-    requires { ⌜ (from + n ≤ into) ⊎ (into + n ≤ from) ⌝ }
-    ensures { λ _. ⌜ now (s .exit) ≡ patch into n (added degree c (now (s .entry)) from into) (now (s .entry)) ⌝ }
+    requires { ⌜ at + length (now w) ≤ length (now s) ⌝ }
+    ensures { λ _. ⌜ now (s .exit) ≡ patch at (length (now (w .entry))) (added degree c (now (w .entry)) (now (s .entry)) at) (now (s .entry)) ⌝ }
 {
     let r = doublings_of(table, degree, c);
-    add_combined(&r, s, from, into, n);
+    add_combined(&r, w, s, at);
 }
 
 // For the crates above: the part of s at `at`, n symbols, becomes c times what it was.

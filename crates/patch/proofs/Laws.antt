@@ -5,10 +5,9 @@
 --   patch-inside, patch-below, patch-above    what stands at a place of the part, before it, behind it
 --   patch-cong                only the values that are written count
 --   patch-step                a loop's turn: one value stored behind the part
---   here, aside               what a loop reads: at the place that it is to write, at one of a part that it does not write
+--   here                      what a loop reads at the place that it is to write
 -- Assumes nothing.
 use mathlib.Core.Path.{_≡_, refl, sym, ap, ap₂, _∙_}
-use mathlib.Core.Logic.{_⊎_, ⊎-elim}
 use mathlib.Core.List.{List}
 use Prim.Native.Nat.{ℕ, zero, suc, _+_, _≤_, _<_}
 use native.Mathlib.Nat.{le-refl}
@@ -65,9 +64,3 @@ module _ {A : Type 0} (at i : ℕ) (f : ℕ → A) (l : List A) {s : List A} (is
 
   pub here : (d : A) → getD s (at + i) d ≡ getD l (at + i) d
   here d = ap (λ (t : List A). getD t (at + i) d) is ∙ patch-above at f l i (at + i) d (le-refl (at + i))
-
-  pub aside : (d : A) (from n : ℕ) → i < n → (from + n ≤ at) ⊎ (at + n ≤ from) → getD s (from + i) d ≡ getD l (from + i) d
-  aside d from n h a =
-      ap (λ (t : List A). getD t (from + i) d) is
-      ∙ ⊎-elim (λ (k : from + n ≤ at). patch-below at f l i (from + i) d (omega arith))
-      (λ (k : at + n ≤ from). patch-above at f l i (from + i) d (omega arith)) a

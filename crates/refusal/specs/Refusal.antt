@@ -15,7 +15,6 @@ pub data Check : Type 0 where
   _when_ : ℕ → Bool → Check
 
 infix 10 _when_
-
 -- 'The first that applies, in the call's own order where one is given, is the answer; no other reason exists.'
 unfoldable pub first : List Check → ℕ
 first [] = 0

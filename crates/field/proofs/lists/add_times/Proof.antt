@@ -1,7 +1,6 @@
--- `field::lists::add_times` adds a constant times a part.
+-- `field::lists::add_times` adds a constant times the symbols of a list.
 -- Assumes nothing.
 use mathlib.Core.Path.{_≡_, ap, _∙_}
-use Prim.Native.Nat.{_+_}
 use native.Mathlib.Omega.{arith}
 use Rattle.patch.proofs.Laws.{patch-cong}
 use Rattle.field.specs.Symbols.{plus}
@@ -23,11 +22,10 @@ same-length c = search needs
 returns : tie.Need-returns
 unfolding added
 returns c =
-    let start = c .before .before .before .before .before .before .before in
     c .before .before .add-combined .ensures
     ∙ patch-cong _ _ _ _ _
     (λ k h. ap (plus _)
-    (rw (c .before .before .before .before .before .doublings-of .ensures) (combined-times _ _ _ (omega (arith, c .before .before .before .before .before .before .slice-known .given (start .args .from + k))))))
+    (rw (c .before .before .before .before .before .doublings-of .ensures) (combined-times _ _ _ (omega (arith, c .before .before .before .before .before .before .before .shared-slice-known .given k)))))
 
 pub add-times-spec : {M : Type 1} → statement M
 add-times-spec =
