@@ -11,7 +11,8 @@ use native.Mathlib.Omega.{arith}
 use lib.ListN.{length, drop, length-drop}
 use Rattle.field.specs.Arithmetic.{Arithmetic}
 use Rattle.field.proofs.Laws.{Field}
-use Rattle.poly.specs.Poly.{All, apart, reduce}
+use Rattle.poly.specs.Poly.{All}
+use Rattle.poly.proofs.Forms.{apart, reduce}
 
 module _ {K : Type 0} (A : Arithmetic K) (𝓕 : Field A) where
   open Arithmetic A using (In)

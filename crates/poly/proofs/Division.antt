@@ -12,7 +12,8 @@ use native.Mathlib.Omega.{arith}
 use lib.ListN.{length}
 use Rattle.field.specs.Arithmetic.{Arithmetic}
 use Rattle.field.proofs.Laws.{Field}
-use Rattle.poly.specs.Poly.{All, Zero, Poly, value, add, scale, mul, lin}
+use Rattle.poly.specs.Poly.{All, Zero, Poly, value, add, scale, mul}
+use Rattle.poly.proofs.Forms.{lin}
 use Rattle.poly.proofs.Ring.{ring, plus-twice, plus-zero, times-zero}
 use Rattle.poly.proofs.Sums.{zero-scale, add-zero, length-scale}
 use Rattle.poly.proofs.Products.{add-mul, scale-mul, length-mul-right}

@@ -1,3 +1,4 @@
+pub mod Forms
 pub mod Ring
 pub mod Sums
 pub mod Products

@@ -15,7 +15,8 @@ use native.Mathlib.Omega.{arith}
 use lib.ListN.{length}
 use Rattle.field.specs.Arithmetic.{Arithmetic}
 use Rattle.field.proofs.Laws.{Field}
-use Rattle.poly.specs.Poly.{All, Zero, Poly, value, scale, mul, lin}
+use Rattle.poly.specs.Poly.{All, Zero, Poly, value, scale, mul}
+use Rattle.poly.proofs.Forms.{lin}
 use Rattle.poly.proofs.Ring.{zero-plus, zero-times, times-zero, plus-self, plus-apart, no-divisors}
 use Rattle.poly.proofs.Sums.{scale-one}
 use Rattle.poly.proofs.Products.{const-mul, mul-const}

@@ -14,7 +14,8 @@ use native.Mathlib.Omega.{arith}
 use lib.ListN.{length, drop, drop-of-length-le}
 use Rattle.field.specs.Arithmetic.{Arithmetic}
 use Rattle.field.proofs.Laws.{Field}
-use Rattle.poly.specs.Poly.{All, Zero, Poly, value, valuesAt, lin, apart, reduce, fromNewton, newtonValue}
+use Rattle.poly.specs.Poly.{All, Zero, Poly, value, valuesAt}
+use Rattle.poly.proofs.Forms.{lin, apart, reduce, fromNewton, newtonValue}
 use Rattle.poly.proofs.Ring.{ring, plus-comm, times-one}
 use Rattle.poly.proofs.Values.{value-const, values-nil, length-values, symbols-values}
 use Rattle.poly.proofs.Division.{length-lin, symbols-lin, value-lin}

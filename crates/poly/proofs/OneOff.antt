@@ -17,7 +17,8 @@ use native.Mathlib.Omega.{arith}
 use lib.ListN.{length, drop}
 use Rattle.field.specs.Arithmetic.{Arithmetic}
 use Rattle.field.proofs.Laws.{Field}
-use Rattle.poly.specs.Poly.{All, Zero, Poly, value, valuesAt, add, scale, lin, Fits, apart, reduce}
+use Rattle.poly.specs.Poly.{All, Zero, Poly, value, valuesAt, add, scale, Fits}
+use Rattle.poly.proofs.Forms.{lin, apart, reduce}
 use Rattle.poly.proofs.Ring.{ring, zero-plus, plus-self, plus-twice, plus-apart, times-cancel, times-over, times-one}
 use Rattle.poly.proofs.Sums.{poly-add-scale}
 use Rattle.poly.proofs.Values.{value-in, value-add-scale, value-const, values-nil}

@@ -17,7 +17,8 @@ use native.Mathlib.Decide.{decLe}
 use lib.ListN.{length}
 use Rattle.field.specs.Arithmetic.{Arithmetic}
 use Rattle.field.proofs.Laws.{Field}
-use Rattle.poly.specs.Poly.{All, Zero, Poly, value, valuesAt, add, scale, mul, lin}
+use Rattle.poly.specs.Poly.{All, Zero, Poly, value, valuesAt, add, scale, mul}
+use Rattle.poly.proofs.Forms.{lin}
 use Rattle.poly.proofs.Ring.{zero-plus, plus-zero, plus-self, plus-apart, no-divisors}
 use Rattle.poly.proofs.Sums.{length-add, symbols-add, zero-scale, zero-summand, same-of-sum, add-self}
 use Rattle.poly.proofs.Products.{mul-cons, mul-add}
