@@ -1,0 +1,6 @@
+pub mod Parts
+pub mod Proper
+pub mod Limits
+pub mod Messages
+pub mod Flags
+pub mod Columns
