@@ -1,0 +1,172 @@
+-- How the ladders of checks are put together, and what no refusal leaves true.
+--
+--   Numbered cs           no check of cs has the number 0
+--   stopped, passed-on    over cs ++ ds the first check of cs that applies decides; where none does, ds decides
+--   total-most, largest-most    lengths up to n: their sum is at most n for each, and the largest at most n
+--   Counts c              what checks 1 to 4 leave; counted, from them and whatever checks follow; counts-of, from them alone
+--   PassedEncoding, PassedReading, PassedDecoding    what the checks of a call leave; encoding, reading, decoding, from them
+-- Assumes nothing.
+use mathlib.Core.Path.{_≡_, refl, sym, _∙_}
+use mathlib.Core.Bool.{Bool, true, false}
+use mathlib.Core.List.{List, [], _∷_, _++_}
+use Prim.Native.Nat.{ℕ, zero, suc, _*_, _≤_}
+use native.Mathlib.Nat.{suc-mul, mul-le-mul}
+use native.Mathlib.Omega.{arith}
+use lib.Dec.{ltb}
+use lib.ListN.{length}
+use borrow.Author.Tests.{eqb-true, ltb-false, not-false}
+use Rattle.refusal.specs.Refusal.{Check, _when_, first, badDegree, badPoints, someOutsideField}
+use Rattle.refusal.proofs.Laws.{within, clear}
+use Rattle.field.proofs.Instance.{field}
+use Rattle.mark.specs.Code.{Code, columns, rows, total, largest, IsMessage, IsArray, jointLimit}
+use Rattle.mark.specs.Checks.{codeChecks, wrongLength, spaceBytes, encodeChecks, readChecks, decodeChecks}
+use Rattle.mark.proofs.Proper.{Within, Proper, neither, lengths-test, proper, array, message}
+
+abbrev pub Numbered : List Check → Type 0
+Numbered [] = Unit {0}
+Numbered ((zero when b) ∷ cs) = ⊥
+Numbered ((suc k when b) ∷ cs) = Numbered cs
+
+pub stopped : (cs ds : List Check) {k : ℕ} → k ≡ first cs → (k ≡ 0 → ⊥) → k ≡ first (cs ++ ds)
+unfolding first
+stopped [] ds e n = absurd (n e)
+stopped ((k when true) ∷ cs) ds e n = e
+stopped ((k when false) ∷ cs) ds e n = stopped cs ds e n
+
+pub passed-on : (cs ds : List Check) {k : ℕ} → Numbered cs → k ≡ first cs → k ≡ 0 → first (cs ++ ds) ≡ first ds
+unfolding first
+passed-on [] ds h e z = refl
+passed-on ((zero when b) ∷ cs) ds h e z = absurd h
+passed-on ((suc k when true) ∷ cs) ds h e z = absurd (omega arith)
+passed-on ((suc k when false) ∷ cs) ds h e z = passed-on cs ds h e z
+
+pub total-most : (n : ℕ) (ks : List ℕ) → Within 1 n ks → total ks ≤ length ks * n
+unfolding total
+total-most n [] h = omega arith
+total-most n (k ∷ ks) h = omega (arith, suc-mul (length ks) n, h .0 .1, total-most n ks (h .1))
+
+pub largest-most : (n : ℕ) (ks : List ℕ) → Within 1 n ks → largest ks ≤ n
+unfolding largest
+largest-most n [] h = omega arith
+largest-most n (k ∷ ks) h = omega (arith, h .0 .1, largest-most n ks (h .1))
+
+pub record Counts (c : Code) : Type 0 where
+  pub degree : badDegree (c .degree) ≡ false
+  pub some-rows : 1 ≤ rows c
+  pub most-rows : rows c ≤ 4
+  pub some-columns : 1 ≤ columns c
+  pub most-columns : columns c ≤ 96
+  pub lengths : Within 1 (columns c) (c .lengths)
+  pub fits : total (c .lengths) ≤ rows c * columns c
+  pub cells : rows c * columns c ≤ 384
+
+pub counted : (c : Code) (ds : List Check) → 0 ≡ first (codeChecks c ++ ds) → Counts c × (0 ≡ first ds)
+counted c ds e =
+    let p₁ = clear 0 _ _ e in
+    let p₂ = clear 1 _ _ (p₁ .1) in
+    let p₃ = clear 2 _ _ (p₂ .1) in
+    let p₄ = clear 3 _ _ (p₃ .1) in
+    let r = within 1 4 (rows c) (p₂ .0) in
+    let n = within 1 96 (columns c) (p₃ .0) in
+    let k = lengths-test 1 (columns c) (c .lengths) .0 (p₄ .0) in (
+      record {
+        degree = p₁ .0;
+        some-rows = r .0;
+        most-rows = r .1;
+        some-columns = n .0;
+        most-columns = n .1;
+        lengths = k;
+        fits = total-most (columns c) (c .lengths) k;
+        cells = mul-le-mul (r .1) (n .1);
+      },
+      p₄ .1,
+    )
+
+pub counts-of : (c : Code) {k : ℕ} → k ≡ first (codeChecks c) → k ≡ 0 → Counts c
+counts-of c e z = counted c [] (sym z ∙ e) .0
+
+-- what the calls have in common: b is the test of the lengths of buffers, s the symbols that are input
+record Common (c : Code) (b : Bool) (s : List ℕ) (ds : List Check) : Type 0 where
+  counts : Counts c
+  proper : Proper c
+  buffers : b ≡ false
+  symbols : someOutsideField (c .degree) s ≡ false
+  rest : 0 ≡ first ds
+
+common : (c : Code) (b : Bool) (s : List ℕ) (ds : List Check)
+    → 0 ≡ first (codeChecks c ++ (5 when b) ∷ (6 when badPoints (c .degree) (c .points)) ∷ (7 when someOutsideField (c .degree) s) ∷ ds)
+    → Common c b s ds
+common c b s ds e =
+    let p = counted c _ e in
+    let p₅ = clear 4 _ _ (p .1) in
+    let p₆ = clear 5 _ _ (p₅ .1) in
+    let p₇ = clear 6 _ _ (p₆ .1) in
+    record {
+      counts = p .0;
+      proper = proper c (field (c .degree) (p .0 .degree)) (lengths-test 1 (columns c) (c .lengths) .1 (p .0 .lengths)) (p₆ .0);
+      buffers = p₅ .0;
+      symbols = p₇ .0;
+      rest = p₇ .1;
+    }
+
+right-length : (n : ℕ) (l : List ℕ) → wrongLength n l ≡ false → length l ≡ n
+right-length n l e = eqb-true (length l) n (not-false _ e)
+
+pub record PassedEncoding (c : Code) (m a : List ℕ) : Type 0 where
+  pub counts : Counts c
+  pub proper : Proper c
+  pub message : IsMessage c m
+  pub array : length a ≡ rows c * columns c
+
+pub encoding : (c : Code) (m a : List ℕ) → 0 ≡ first (encodeChecks c m a) → PassedEncoding c m a
+encoding c m a e =
+    let p = common c _ m [] e in
+    let l = neither (wrongLength (total (c .lengths)) m) (wrongLength (rows c * columns c) a) .0 (p .buffers) in
+    record {
+      counts = p .counts;
+      proper = p .proper;
+      message = message c m (right-length _ m (l .0)) (p .symbols);
+      array = right-length _ a (l .1);
+    }
+
+pub record PassedReading (c : Code) (a m : List ℕ) : Type 0 where
+  pub counts : Counts c
+  pub proper : Proper c
+  pub array : IsArray c a
+  pub message : length m ≡ total (c .lengths)
+
+pub reading : (c : Code) (a m : List ℕ) → 0 ≡ first (readChecks c a m) → PassedReading c a m
+reading c a m e =
+    let p = common c _ a [] e in
+    let l = neither (wrongLength (total (c .lengths)) m) (wrongLength (rows c * columns c) a) .0 (p .buffers) in
+    record {
+      counts = p .counts;
+      proper = p .proper;
+      array = array c a (right-length _ a (l .1)) (p .symbols);
+      message = right-length _ m (l .0);
+    }
+
+pub record PassedDecoding (c : Code) (τ : ℕ) (y a f w : List ℕ) : Type 0 where
+  pub counts : Counts c
+  pub proper : Proper c
+  pub received : IsArray c y
+  pub answer : length a ≡ rows c * columns c
+  pub flags : length f ≡ columns c
+  pub space : spaceBytes ≤ length w
+  pub limit : τ ≤ jointLimit c
+
+pub decoding : (c : Code) (τ : ℕ) (y a f w : List ℕ) → 0 ≡ first (decodeChecks c τ y a f w) → PassedDecoding c τ y a f w
+decoding c τ y a f w e =
+    let p = common c _ y _ e in
+    let l₃ = neither _ (ltb (length w) spaceBytes) .0 (p .buffers) in
+    let l₂ = neither _ (wrongLength (columns c) f) .0 (l₃ .0) in
+    let l₁ = neither (wrongLength (rows c * columns c) y) (wrongLength (rows c * columns c) a) .0 (l₂ .0) in
+    record {
+      counts = p .counts;
+      proper = p .proper;
+      received = array c y (right-length _ y (l₁ .0)) (p .symbols);
+      answer = right-length _ a (l₁ .1);
+      flags = right-length _ f (l₂ .1);
+      space = ltb-false (length w) spaceBytes (l₃ .1);
+      limit = ltb-false (jointLimit c) τ (clear 7 _ _ (p .rest) .0);
+    }

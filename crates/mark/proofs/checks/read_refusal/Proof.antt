@@ -1,0 +1,15 @@
+-- `checks::read_refusal` is the number of the first of the checks 1 to 7 of reading that applies.
+-- Assumes nothing.
+use mathlib.Core.Path.{refl}
+use borrow.Author.Needs.{needs}
+use Rattle.mark.proofs.checks.read_refusal.Statement.{statement}
+use Rattle.mark.proofs.checks.read_refusal.Tie as tie
+
+buffers-refusal-requires : tie.Need-buffers-refusal-requires
+buffers-refusal-requires c κs = search needs
+
+returns : tie.Need-returns
+returns c m p = c .buffers-refusal .ensures m (c .before .before .before .before .args .array .now) p refl
+
+pub read-refusal-spec : {M : Type 1} → statement M
+read-refusal-spec = tie.close (tie.spec buffers-refusal-requires returns)
