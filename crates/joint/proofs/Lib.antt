@@ -6,3 +6,10 @@ pub mod WrongColumns
 pub mod Exclusive
 pub mod Demands
 pub mod Unique
+pub mod Model
+pub mod ModelRows
+pub mod ModelFlags
+pub mod ModelFilled
+pub mod ModelEnds
+pub mod ModelExactly
+pub mod ModelCode

@@ -1,0 +1,47 @@
+-- For every input that is not refused exactly one ending holds: the one that the model decides.
+--
+--   ends-exactly   a decoding ends so exactly when the model decides so
+--   exactly-one    there is an outcome, and there is no other
+-- Assumes nothing.
+use mathlib.Core.Path.{_≡_, sym, subst}
+use mathlib.Core.Logic.{_↔_}
+use mathlib.Core.List.{List}
+use Prim.Native.Nat.{ℕ}
+use Rattle.refusal.specs.Refusal.{first}
+use Rattle.mark.specs.Code.{Code}
+use Rattle.mark.specs.Checks.{decodeChecks}
+use Rattle.mark.proofs.Passed.{PassedDecoding, decoding}
+use Rattle.joint.specs.Endings.{Buffers, Ends}
+use Rattle.joint.proofs.Unique.{unique}
+use Rattle.joint.proofs.Model.{Outcome, decided}
+use Rattle.joint.proofs.ModelEnds.{model-ends}
+
+module _ (c : Code) (τ : ℕ) (y w : List ℕ) (lent : Buffers)
+    (passes : first (decodeChecks c τ y (lent .array) (lent .flags) w) ≡ 0)
+  where
+    abbrev EndsAs : Outcome → Type 0
+    EndsAs o = Ends c y τ lent (o .0) (o .1)
+
+    given : PassedDecoding c τ y (lent .array) (lent .flags) w
+    given = decoding c τ y (lent .array) (lent .flags) w (sym passes)
+
+    decided-ends : EndsAs (decided c y τ lent)
+    decided-ends = model-ends (given .proper) (given .received) τ (given .limit) lent
+
+    pub ends-exactly : (o : Outcome) → EndsAs o ↔ (decided c y τ lent ≡ o)
+    ends-exactly o = (to, λ e. subst EndsAs e decided-ends)
+      where
+        to : EndsAs o → decided c y τ lent ≡ o
+        to h i =
+            let (e, b) = unique (given .proper) (given .received) τ (given .limit)
+            (decided c y τ lent .0)
+            (o .0)
+            lent
+            (decided c y τ lent .1)
+            (o .1)
+            decided-ends
+            h in
+            (e i, b i)
+
+    pub exactly-one : (o : Outcome) × EndsAs o × ((o′ : Outcome) → EndsAs o′ → o ≡ o′)
+    exactly-one = (decided c y τ lent, decided-ends, λ o h. ends-exactly o .0 h)
