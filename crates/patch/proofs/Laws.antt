@@ -5,17 +5,19 @@
 --   patch-inside, patch-below, patch-above    what stands at a place of the part, before it, behind it
 --   patch-cong                only the values that are written count
 --   patch-step                a loop's turn: one value stored behind the part
+--   patch-front               such a turn where the part is the list's front
+--   front-at                  what stands in such a part
 --   here                      what a loop reads at the place that it is to write
 -- Assumes nothing.
 use mathlib.Core.Path.{_≡_, refl, sym, ap, ap₂, _∙_}
 use mathlib.Core.List.{List}
 use Prim.Native.Nat.{ℕ, zero, suc, _+_, _≤_, _<_}
-use native.Mathlib.Nat.{le-refl}
+use native.Mathlib.Nat.{le-refl, zero-add}
 use native.Mathlib.Numerals.{add-one}
 use native.Mathlib.Decide.{ℕ-discrete}
 use native.Mathlib.Omega.{arith}
-use lib.ListN.{length, getD, set, length-set}
-use lib.Seq.{getD-set-same, getD-set-other}
+use lib.ListN.{length, getD, set, take, length-set}
+use lib.Seq.{getD-set-same, getD-set-other, getD-take}
 use Rattle.patch.specs.Patch.{patch}
 
 module _ {A : Type 0} (at : ℕ) (f : ℕ → A) (l : List A) where
@@ -64,3 +66,12 @@ module _ {A : Type 0} (at i : ℕ) (f : ℕ → A) (l : List A) {s : List A} (is
 
   pub here : (d : A) → getD s (at + i) d ≡ getD l (at + i) d
   here d = ap (λ (t : List A). getD t (at + i) d) is ∙ patch-above at f l i (at + i) d (le-refl (at + i))
+
+pub patch-front : {A : Type 0} (i : ℕ) (f : ℕ → A) (l : List A) {s : List A} {v : A} → s ≡ patch 0 i f l → v ≡ f i
+    → set s i v ≡ patch 0 (i + 1) f l
+patch-front i f l {s} {v} is e = ap (λ (k : ℕ). set s k v) (sym (zero-add i)) ∙ patch-step 0 i f l is e
+
+pub front-at : {A : Type 0} (n : ℕ) (f : ℕ → A) (l : List A) {s : List A} → s ≡ patch 0 n f l → n ≤ length l → (k : ℕ) (d : A) → k < n
+    → getD (take n s) k d ≡ f k
+front-at n f l {s} is fits k d h =
+    getD-take n s k d h ∙ ap (λ (i : ℕ). getD s i d) (sym (zero-add k)) ∙ rw is (patch-inside 0 f l n k d h (omega arith))

@@ -1,0 +1,149 @@
+-- Values from Newton's form, from the last coefficient to the first, at many points at once.
+--
+--   rest d xs us j x     the value at x of the Newton form from coefficient j on
+--   inner d xs us j x    the same times x less the node before: what the loop has when it comes to coefficient j − 1
+--   values-start, values-step, values-end    the row before the first turn, a turn, and the row that comes out
+--   values-in            on the way it has symbols
+--   zeros, symbols-zero    zeros are zeros, and symbols
+--   plain-values         where all nodes are zero the Newton coefficients are the coefficients
+-- Assumes nothing.
+use mathlib.Core.Path.{_≡_, refl, sym, ap, ap₂, _∙_}
+use mathlib.Core.Bool.{false}
+use mathlib.Core.List.{List, [], _∷_, map}
+use Prim.Native.Nat.{ℕ, zero, suc, _+_, _-_, _^_, _≤_, _<_}
+use native.Mathlib.Nat.{sub-self, sub-zero}
+use native.Mathlib.Omega.{arith}
+use lib.ListN.{length, getD, drop, replicate, length-map}
+use lib.Seq.{drop-cons}
+use Rattle.patch.specs.Patch.{patch}
+use Rattle.patch.specs.Parts.{lay}
+use Rattle.patch.proofs.Parts.{length-lay, lay-inside, lay-again, patch-is-lay}
+use Rattle.refusal.specs.Refusal.{badDegree}
+use Rattle.field.specs.Symbols.{plus, times}
+use Rattle.field.specs.Lists.{multiplied, SymbolsAt}
+use Rattle.field.specs.Arithmetic.{Arithmetic, gf}
+use Rattle.field.proofs.Laws.{Field}
+use Rattle.field.proofs.Instance.{field}
+use Rattle.poly.specs.Poly.{All, Zero, value, valuesAt}
+use Rattle.poly.proofs.Forms.{newtonValue}
+use Rattle.poly.proofs.Ring.{plus-zero, plus-comm, times-zero}
+
+-- ---- values at points, laid in a list
+
+map-at : (f : ℕ → ℕ) (xs : List ℕ) (i : ℕ) → i < length xs → getD (map f xs) i 0 ≡ f (getD xs i 0)
+map-at f [] i h = absurd (omega arith)
+map-at f (x ∷ xs) zero h = refl
+map-at f (x ∷ xs) (suc i) h = map-at f xs i (omega arith)
+
+module _ (at : ℕ) (xs l : List ℕ) (fits : at + length xs ≤ length l) where
+  map-lay : (f : ℕ → ℕ) {s : List ℕ} → s ≡ lay at (map f xs) l → (i : ℕ) → i < length xs → getD s (at + i) 0 ≡ f (getD xs i 0)
+  map-lay f is i h =
+      let size : length (map f xs) ≡ length xs = length-map xs f in
+      rw is (lay-inside at (map f xs) l i (omega arith) (omega arith)) ∙ map-at f xs i h
+
+  map-patch : (g f : ℕ → ℕ) {s : List ℕ} → s ≡ patch at (length xs) g l → ((i : ℕ) → i < length xs → g i ≡ f (getD xs i 0))
+      → s ≡ lay at (map f xs) l
+  map-patch g f is h = is ∙ patch-is-lay at (length xs) g (map f xs) l (length-map xs f) (λ i k. h i k ∙ sym (map-at f xs i k))
+
+  map-again : (g f : ℕ → ℕ) {s : List ℕ} → s ≡ lay at (map g xs) l → lay at (map f xs) s ≡ lay at (map f xs) l
+  map-again g f is =
+      let e : length (map g xs) ≡ length xs = length-map xs g in
+      let e′ : length (map f xs) ≡ length xs = length-map xs f in
+      rw is (lay-again at (map g xs) (map f xs) l (omega arith) (omega arith))
+
+-- ---- Newton's form from a coefficient on
+
+unfoldable pub rest : ℕ → List ℕ → List ℕ → ℕ → ℕ → ℕ
+rest d nodes us j x = newtonValue (gf d) (length us - j) (drop j nodes) (drop j us) x
+
+unfoldable pub inner : ℕ → List ℕ → List ℕ → ℕ → ℕ → ℕ
+inner d nodes us j x = times d (plus x (getD nodes (j - 1) 0)) (rest d nodes us j x)
+
+module _ (d : ℕ) (good : badDegree d ≡ false) (nodes us : List ℕ) (enough : length us ≤ length nodes) where
+  rest-cons : (j x : ℕ) → j < length us
+      → rest d nodes us j x ≡ plus (getD us j 0) (times d (plus x (getD nodes j 0)) (rest d nodes us (suc j) x))
+  unfolding rest newtonValue
+  rest-cons j x h =
+      let e : length us - j ≡ suc (length us - suc j) = omega arith in
+      rw (e, drop-cons us j 0 h, drop-cons nodes j 0 (omega arith))
+
+  inner-start : (x : ℕ) → inner d nodes us (length us) x ≡ 0
+  unfolding inner rest newtonValue
+  inner-start x = rw (sub-self (length us)) (times-zero (gf d) (field d good) _)
+
+  inner-in : (j x : ℕ) → inner d nodes us j x < 2 ^ d
+  unfolding inner
+  inner-in j x = field d good .times-in _ _
+
+  rest-less : (j x : ℕ) → 0 < j → j ≤ length us → plus (inner d nodes us j x) (getD us (j - 1) 0) ≡ rest d nodes us (j - 1) x
+  unfolding inner
+  rest-less zero x h k = absurd (omega arith)
+  rest-less (suc j) x h k =
+      let e : suc j - 1 ≡ j = omega arith in
+      rw e (plus-comm (gf d) (field d good) _ _ ∙ sym (rest-cons j x (omega arith)))
+
+  rest-whole : (x : ℕ) → rest d nodes us 0 x ≡ newtonValue (gf d) (length us) nodes us x
+  unfolding rest
+  rest-whole x = rw (sub-zero (length us))
+
+  inner-less : (j x y : ℕ) → 1 < j → j ≤ length us → y ≡ inner d nodes us j x
+      → times d (plus x (getD nodes (j - 2) 0)) (plus y (getD us (j - 1) 0)) ≡ inner d nodes us (j - 1) x
+  unfolding inner
+  inner-less j x y h k e =
+      let two : j - 2 ≡ j - 1 - 1 = omega arith in
+      ap₂ (λ (i u : ℕ). times d (plus x (getD nodes i 0)) u) two (rw e (rest-less j x (omega arith) k))
+
+  module _ (at : ℕ) (xs l : List ℕ) (fits : at + length xs ≤ length l) where
+    pub values-start : {s : List ℕ} → s ≡ patch at (length xs) (λ i. 0) l → s ≡ lay at (map (inner d nodes us (length us)) xs) s
+    values-start {s} is =
+        let f = inner d nodes us (length us) in
+        let first : s ≡ lay at (map f xs) l = map-patch at xs l fits (λ i. 0) f is (λ i h. sym (inner-start (getD xs i 0))) in
+        first ∙ sym (map-again at xs l fits f f first)
+
+    pub values-in : (j : ℕ) {s : List ℕ} → s ≡ lay at (map (inner d nodes us j) xs) l → SymbolsAt d s at (length xs)
+    values-in j is i h = rw (map-lay at xs l fits (inner d nodes us j) is i h) (inner-in j (getD xs i 0))
+
+    pub values-step : (j : ℕ) {s t : List ℕ} → 1 < j → j ≤ length us → s ≡ lay at (map (inner d nodes us j) xs) l
+        → t ≡ patch at (length xs) (multiplied d xs (getD nodes (j - 2) 0) s at (getD us (j - 1) 0)) s
+        → t ≡ lay at (map (inner d nodes us (j - 1)) xs) l
+    unfolding multiplied
+    values-step j {s} {t} h k is then =
+        let f = inner d nodes us j in
+        let g = inner d nodes us (j - 1) in
+        let long : length s ≡ length l = rw is (length-lay at (map f xs) l) in
+        map-patch at xs s (omega arith) _ g then (λ i m. inner-less j (getD xs i 0) (getD s (at + i) 0) h k (map-lay at xs l fits f is i m))
+        ∙ map-again at xs l fits f g is
+
+    pub values-end : (e : List ℕ) {s t : List ℕ} → 0 < length us → length e ≡ length l → l ≡ patch at (length xs) (λ i. 0) e
+        → s ≡ lay at (map (inner d nodes us 1) xs) l
+        → t ≡ patch at (length xs) (λ i. plus (getD s (at + i) 0) (getD us 0 0)) s
+        → t ≡ lay at (map (newtonValue (gf d) (length us) nodes us) xs) e
+    values-end e {s} {t} h same start is then =
+        let f = inner d nodes us 1 in
+        let g = newtonValue (gf d) (length us) nodes us in
+        let long : length s ≡ length l = rw is (length-lay at (map f xs) l) in
+        let z : ℕ → ℕ = λ x. 0 in
+        map-patch at xs s (omega arith) _ g then (λ i m. rw (map-lay at xs l fits f is i m) (rest-less 1 (getD xs i 0) (omega arith) h ∙ rest-whole (getD xs i 0)))
+        ∙ (map-again at xs l fits f g is ∙ map-again at xs e (omega arith) z g (map-patch at xs e (omega arith) _ z start (λ i m. refl)))
+
+module _ {K : Type 0} (A : Arithmetic K) (𝓕 : Field A) where
+  pub zeros : (n : ℕ) → Zero A (replicate n (A .zero))
+  zeros zero = tt
+  zeros (suc n) = (refl, zeros n)
+
+  pub symbols-zero : (zs : List K) → Zero A zs → All (A .In) zs
+  symbols-zero [] z = tt
+  symbols-zero (a ∷ zs) z = (rw (z .0) (𝓕 .zero-in), symbols-zero zs (z .1))
+
+  newton-zeros : (zs p : List K) (x : K) → Zero A zs → length p ≤ length zs → newtonValue A (length p) zs p x ≡ value A p x
+  unfolding newtonValue value
+  newton-zeros zs [] x z h = refl
+  newton-zeros [] (c ∷ p) x z h = absurd (omega arith)
+  newton-zeros (a ∷ zs) (c ∷ p) x z h =
+      ap (λ (y : K). A .plus c (A .times y (newtonValue A (length p) zs p x))) (rw (z .0) (plus-zero A 𝓕 x))
+      ∙ ap (λ (v : K). A .plus c (A .times x v)) (newton-zeros zs p x (z .1) (omega arith))
+
+  pub plain-values : (zs p xs : List K) → Zero A zs → length p ≤ length zs → map (newtonValue A (length p) zs p) xs ≡ valuesAt A xs p
+  unfolding valuesAt
+  plain-values zs p [] z h = refl
+  plain-values zs p (x ∷ xs) z h = ap₂ _∷_ (newton-zeros zs p x z h) (plain-values zs p xs z h)

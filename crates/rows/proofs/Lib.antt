@@ -1,0 +1,4 @@
+pub mod Symbols
+pub mod Rounds
+pub mod Evaluation
+pub mod Newton

@@ -1,0 +1,135 @@
+-- Rounds of divided differences, each from the one before.
+--
+--   divisor         the difference of two points is not zero
+--   times-inverse   a product with an inverse is a quotient
+--   later-symbols, inverse-symbols    what a round multiplies are symbols
+--   round-multiplied    and it works out differences
+--   reduce-more     one round more
+--   round-of-row    the same as a patch of the row
+--   round-step      the same of a row that lies in a list
+-- Assumes nothing.
+use mathlib.Core.Path.{_≡_, refl, sym, ap, _∙_}
+use mathlib.Core.Bool.{false}
+use mathlib.Core.Logic.{inl, inr}
+use mathlib.Core.List.{List, [], _∷_, _++_}
+use Prim.Native.Nat.{ℕ, zero, suc, _+_, _-_, _^_, _≤_, _<_}
+use native.Mathlib.Nat.{add-assoc, zero-add}
+use native.Mathlib.Numerals.{add-one}
+use native.Mathlib.Omega.{arith}
+use lib.ListN.{length, getD, take, drop, length-drop}
+use lib.Seq.{getD-drop}
+use Rattle.patch.specs.Patch.{patch}
+use Rattle.patch.specs.Parts.{part, lay}
+use Rattle.patch.proofs.Laws.{patch-cong}
+use Rattle.patch.proofs.Parts.{part-at, lay-end, part-lay, patch-is-lay, patch-lay}
+use Rattle.refusal.specs.Refusal.{badDegree}
+use Rattle.field.specs.Symbols.{plus, times, over}
+use Rattle.field.specs.Lists.{multiplied, SymbolsAt}
+use Rattle.field.specs.Arithmetic.{gf}
+use Rattle.field.proofs.Instance.{field}
+use Rattle.poly.proofs.Forms.{apart, reduce}
+use Rattle.poly.proofs.Ring.{plus-apart, plus-zero, over-unique, times-over, one-times}
+use Rattle.poly.proofs.Roots.{Mem, Distinct}
+use Rattle.poly.proofs.Differences.{length-apart, length-reduce}
+use Rattle.rows.specs.Rows.{Points, inverse, difference}
+use Rattle.rows.proofs.Symbols.{symbol-at}
+
+mem-at : (x : ℕ) (xs : List ℕ) (i : ℕ) → i < length xs → x ≡ getD xs i 0 → Mem x xs
+mem-at x [] i h e = absurd (omega arith)
+mem-at x (y ∷ xs) zero h e = inl e
+mem-at x (y ∷ xs) (suc i) h e = inr (mem-at x xs i (omega arith) e)
+
+distinct-at : (xs : List ℕ) (i j : ℕ) → Distinct xs → i < j → j < length xs → getD xs i 0 ≡ getD xs j 0 → ⊥
+distinct-at [] i j d h k e = absurd (omega arith)
+distinct-at (x ∷ xs) i zero d h k e = absurd (let z : i < 0 = h in omega arith)
+distinct-at (x ∷ xs) zero (suc j) d h k e = d .0 (mem-at x xs j (omega arith) e)
+distinct-at (x ∷ xs) (suc i) (suc j) d h k e = distinct-at xs i j (d .1) (omega arith) (omega arith) e
+
+module _ (d : ℕ) (good : badDegree d ≡ false) where
+  pub divisor : (xs : List ℕ) (i j : ℕ) → Points d xs → i < j → j < length xs → plus (getD xs j 0) (getD xs i 0) ≡ 0 → ⊥
+  divisor xs i j p h k = plus-apart (gf d) (field d good) (λ e. distinct-at xs i j (p .distinct) h k (sym e))
+
+  times-inverse : (a b : ℕ) → a < 2 ^ d → b < 2 ^ d → (b ≡ 0 → ⊥) → times d (plus (over d 1 b) 0) a ≡ over d a b
+  times-inverse a b ha hb n =
+      let 𝓕 = field d good in
+      ap (λ (x : ℕ). times d x a) (plus-zero (gf d) 𝓕 (over d 1 b))
+      ∙ sym (over-unique (gf d) 𝓕 ha hb (𝓕 .times-in (over d 1 b) a) n
+      (times-over (gf d) 𝓕 a (𝓕 .one-in) hb n ∙ one-times (gf d) 𝓕 ha))
+
+  reduce-more : (j : ℕ) (xs us : List ℕ) → length us ≡ length xs → j < length xs
+      → reduce (gf d) (suc j) xs us
+      ≡ take (suc j) (reduce (gf d) j xs us)
+      ++ apart (gf d) (getD xs j 0) (getD (reduce (gf d) j xs us) j 0) (drop (suc j) xs) (drop (suc j) (reduce (gf d) j xs us))
+  unfolding reduce
+  reduce-more j [] us l h = absurd (omega arith)
+  reduce-more j (x ∷ xs) [] l h = absurd (omega arith)
+  reduce-more zero (x ∷ xs) (u ∷ us) l h = refl
+  reduce-more (suc j) (x ∷ xs) (u ∷ us) l h =
+      ap (_∷_ u) (reduce-more j xs (apart (gf d) x u xs us) (length-apart (gf d) (field d good) x u xs us (omega arith)) (omega arith))
+
+  apart-at : (x u : ℕ) (xs us : List ℕ) (i : ℕ) → length us ≡ length xs → i < length xs
+      → getD (apart (gf d) x u xs us) i 0 ≡ over d (plus (getD us i 0) u) (plus (getD xs i 0) x)
+  unfolding apart
+  apart-at x u [] us i l h = absurd (omega arith)
+  apart-at x u (y ∷ xs) [] i l h = absurd (omega arith)
+  apart-at x u (y ∷ xs) (v ∷ us) zero l h = refl
+  apart-at x u (y ∷ xs) (v ∷ us) (suc i) l h = apart-at x u xs us i (omega arith) (omega arith)
+
+  difference-at : (xs us : List ℕ) (j i : ℕ)
+      → difference d xs us j i ≡ over d (plus (getD us (suc j + i) 0) (getD us j 0)) (plus (getD xs (suc j + i) 0) (getD xs j 0))
+  unfolding difference
+  difference-at xs us j i = rw add-one
+
+  round-of-row : (j : ℕ) (xs us : List ℕ) → length us ≡ length xs → j < length xs
+      → patch (j + 1) (length xs - (j + 1)) (difference d xs us j) us
+      ≡ take (suc j) us ++ apart (gf d) (getD xs j 0) (getD us j 0) (drop (suc j) xs) (drop (suc j) us)
+  round-of-row j xs us l h =
+      let zs : List ℕ = apart (gf d) (getD xs j 0) (getD us j 0) (drop (suc j) xs) (drop (suc j) us) in
+      let same : length (drop (suc j) us) ≡ length (drop (suc j) xs) = omega (arith, length-drop (suc j) us, length-drop (suc j) xs) in
+      let size : length zs ≡ length xs - suc j = length-apart (gf d) (field d good) (getD xs j 0) (getD us j 0) (drop (suc j) xs) (drop (suc j) us) same ∙ length-drop (suc j) xs in
+      rw add-one
+      (patch-is-lay (suc j) (length xs - suc j) (difference d xs us j) zs us size
+      (λ i k. sym (apart-at (getD xs j 0) (getD us j 0) (drop (suc j) xs) (drop (suc j) us) i same (omega (arith, length-drop (suc j) xs)) ∙ rw (getD-drop (suc j) us i 0, getD-drop (suc j) xs i 0) (sym (difference-at xs us j i))))
+      ∙ sym (lay-end (suc j) zs us (omega arith)))
+
+  pub round-step : (at j : ℕ) (xs us l : List ℕ) {s t : List ℕ} → length us ≡ length xs → j < length xs → at + length xs ≤ length l
+      → s ≡ lay at (reduce (gf d) j xs us) l
+      → t ≡ patch (at + (j + 1)) (length xs - (j + 1)) (difference d xs (part at (length xs) s) j) s
+      → t ≡ lay at (reduce (gf d) (j + 1) xs us) l
+  round-step at j xs us l {s} {t} e h fits is then =
+      let v : List ℕ = reduce (gf d) j xs us in
+      let size : length v ≡ length xs = length-reduce (gf d) (field d good) j xs us e in
+      let row : part at (length xs) s ≡ v = rw (is, ← size) (part-lay at v l (omega arith)) in
+      then ∙ rw (row, is)
+      (patch-lay at (j + 1) (length xs - (j + 1)) (difference d xs v j) v l (omega arith) (omega arith)
+      ∙ ap (λ (r : List ℕ). lay at r l) (round-of-row j xs v size h ∙ rw add-one (sym (reduce-more j xs us e h))))
+
+-- a round as the code works it out, w being the inverses
+module _ (d : ℕ) (good : badDegree d ≡ false) (at j : ℕ) (xs l w : List ℕ) (h : j < length xs) (fits : at + length xs ≤ length l)
+    (points : Points d xs) (symbols : SymbolsAt d l at (length xs)) (size : length w ≡ length xs - (j + 1))
+    (is : (i : ℕ) → i < length xs - (j + 1) → getD w i 0 ≡ inverse d xs j i) where
+  later : (i : ℕ) → i < length xs - (j + 1) → getD l (at + (j + 1) + i) 0 < 2 ^ d
+  later i k = rw (add-assoc at (j + 1) i) (symbols (j + 1 + i) (omega arith))
+
+  pub later-symbols : SymbolsAt d l (at + (j + 1)) (length w)
+  later-symbols i k = later i (omega arith)
+
+  pub inverse-symbols : SymbolsAt d w 0 (length w)
+  unfolding inverse
+  inverse-symbols i k = rw (zero-add i, is i (omega arith)) (field d good .over-in _ _)
+
+  multiplied-is : (i : ℕ) → i < length xs - (j + 1)
+      → multiplied d w 0 l (at + (j + 1)) (getD l (at + j) 0) i ≡ difference d xs (part at (length xs) l) j i
+  unfolding multiplied inverse difference
+  multiplied-is i k =
+      let u : ℕ = plus (getD l (at + (j + 1) + i) 0) (getD l (at + j) 0) in
+      let y : ℕ = plus (getD xs (j + 1 + i) 0) (getD xs j 0) in
+      let u-in : u < 2 ^ d = field d good .plus-in _ _ (later i k) (symbols j h) in
+      let y-in : y < 2 ^ d = field d good .plus-in _ _ (symbol-at d xs (j + 1 + i) (points .symbols) (omega arith)) (symbol-at d xs j (points .symbols) h) in
+      ap (λ (v : ℕ). times d (plus v 0) u) (is i k)
+      ∙ times-inverse d good u y u-in y-in (divisor d good xs j (j + 1 + i) points (omega arith) (omega arith))
+      ∙ rw (part-at at (length xs) l (j + 1 + i) (omega arith), part-at at (length xs) l j h, add-assoc at (j + 1) i)
+
+  pub round-multiplied : {t : List ℕ} → t ≡ patch (at + (j + 1)) (length w) (multiplied d w 0 l (at + (j + 1)) (getD l (at + j) 0)) l
+      → t ≡ patch (at + (j + 1)) (length xs - (j + 1)) (difference d xs (part at (length xs) l) j) l
+  round-multiplied then = then ∙ rw size (patch-cong (at + (j + 1)) (length xs - (j + 1)) _ _ l multiplied-is)
