@@ -23,9 +23,9 @@ use Rattle.mark.proofs.Parts.{all-map}
 use Rattle.basis.proofs.Mix.{mix}
 use Rattle.basis.proofs.Pivot
 use Rattle.basis.proofs.Lines.{keep, least, another, size, unit, startRows, start, lifted, fix-by, fix, step-by, step, run, solve, cut}
-use Rattle.joint.specs.Endings.{Buffers}
-use Rattle.joint.proofs.Model.{right, reducedRows, filledRow, filledIn, filledRows, beyond, divided, alone, within, lowest, decided}
-use Rattle.joint.proofs.ModelExactly.{ends-exactly}
+use Rattle.ending.specs.Endings.{Buffers}
+use Rattle.ending.proofs.Model.{right, reducedRows, filledRow, filledIn, filledRows, beyond, divided, alone, within, lowest, decided}
+use Rattle.ending.proofs.ModelExactly.{ends-exactly}
 use Rattle.marked.specs.Marked.{Example, Lent, Holds, marked, product, encoding, decoding, refusal}
 
 -- the checks of decoding, with buffers of the right lengths

@@ -13,9 +13,9 @@ use Rattle.field.specs.Answers.{checks, Answers}
 use Rattle.field.specs.declared.Value.the-variants.{Symbol}
 use Rattle.mark.specs.Code.{Code, rows, columns, encoded}
 use Rattle.mark.specs.Checks.{encodeChecks, decodeChecks, spaceBytes}
-use Rattle.joint.specs.Endings.{Buffers, Ends}
-use Rattle.joint.specs.declared.Ending.{Ending}
-use Rattle.joint.specs.declared.Ending.the-variants.{Corrected, Nothing, Several, Hollow}
+use Rattle.ending.specs.Endings.{Buffers, Ends}
+use Rattle.ending.specs.declared.Ending.{Ending}
+use Rattle.ending.specs.declared.Ending.the-variants.{Corrected, Nothing, Several, Hollow}
 
 pub data Example : Type 0 where
   -- the product of a and b

@@ -24,8 +24,8 @@ use Rattle.mark.proofs.Proper.{Within, Proper}
 use Rattle.mark.proofs.Limits.{Room}
 use Rattle.basis.proofs.Lines.{Row}
 use Rattle.basis.proofs.Locates.{RowMet, Locates, Plain}
-use Rattle.joint.specs.Locators.{RowsFit, Locator}
-use Rattle.joint.proofs.Model.{reducedRows, rowsOf}
+use Rattle.ending.specs.Locators.{RowsFit, Locator}
+use Rattle.ending.proofs.Model.{reducedRows, rowsOf}
 
 distinct-drop : {K : Type 0} (n : ℕ) (xs : List K) → Distinct xs → Distinct (drop n xs)
 distinct-drop zero xs d = d

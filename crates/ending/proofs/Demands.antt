@@ -18,14 +18,14 @@ use Rattle.mark.specs.Code.{Code, columns, IsMessage, IsArray, encoded, CodeArr
 use Rattle.mark.proofs.Proper.{Proper}
 use Rattle.mark.proofs.Limits.{Room, joint-room, safe-room}
 use Rattle.mark.proofs.Columns.{wrongPoints, wrong-count, wrong-distinct, wrong-symbols}
-use Rattle.joint.specs.Locators.{Locator, Multiple, Least, OnlyOne, Divides}
-use Rattle.joint.specs.Endings.{codeOf, Buffers, Corrects, Ends}
-use Rattle.joint.specs.declared.Ending.{Ending}
-use Rattle.joint.specs.declared.Ending.the-variants.{Refused, Corrected, Nothing, Several, Hollow}
-use Rattle.joint.proofs.Division.{divides-exactly, divides-shared, divides-unique}
-use Rattle.joint.proofs.Multiples.{vanishes-multiple}
-use Rattle.joint.proofs.WrongColumns.{code-divides, code-locator, vanishes-wrong, wrong-roots, wrong-few, wrong-number}
-use Rattle.joint.proofs.Exclusive.{exclusive}
+use Rattle.ending.specs.Locators.{Locator, Multiple, Least, OnlyOne, Divides}
+use Rattle.ending.specs.Endings.{codeOf, Buffers, Corrects, Ends}
+use Rattle.ending.specs.declared.Ending.{Ending}
+use Rattle.ending.specs.declared.Ending.the-variants.{Refused, Corrected, Nothing, Several, Hollow}
+use Rattle.ending.proofs.Division.{divides-exactly, divides-shared, divides-unique}
+use Rattle.ending.proofs.Multiples.{vanishes-multiple}
+use Rattle.ending.proofs.WrongColumns.{code-divides, code-locator, vanishes-wrong, wrong-roots, wrong-few, wrong-number}
+use Rattle.ending.proofs.Exclusive.{exclusive}
 
 pub record Nearest (c : Code) (y : List ℕ) (τ w : ℕ) (a : List ℕ) : Type 0 where
   pub code : CodeArray c a

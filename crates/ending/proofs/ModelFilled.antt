@@ -25,7 +25,7 @@ use Rattle.mark.proofs.Limits.{Room}
 use Rattle.mark.proofs.Messages.{first-row, other-rows}
 use Rattle.mark.proofs.Flags.{pointsWhere, all-where, distinct-where}
 use Rattle.mark.proofs.Columns.{Agree}
-use Rattle.joint.proofs.Model.{right, filledRow, filledIn, filledRows, filled}
+use Rattle.ending.proofs.Model.{right, filledRow, filledIn, filledRows, filled}
 
 -- parts of distinct points
 

@@ -19,8 +19,8 @@ use Rattle.mark.specs.Code.{Code, columns, largest, IsArray}
 use Rattle.mark.proofs.Parts.{all-append, row-length, rest-length}
 use Rattle.mark.proofs.Proper.{Proper}
 use Rattle.mark.proofs.Limits.{Room, room}
-use Rattle.joint.specs.Locators.{RowsFit, Locator}
-use Rattle.joint.proofs.Rows.{fits-unique, fits-zero}
+use Rattle.ending.specs.Locators.{RowsFit, Locator}
+use Rattle.ending.proofs.Rows.{fits-unique, fits-zero}
 
 module _ {K : Type 0} (A : Arithmetic K) where
   abbrev pub numerators : (xs : List K) (t : ℕ) (E : List K) (ks : List ℕ) (y : List K) → RowsFit A xs t E ks y → List (List K)

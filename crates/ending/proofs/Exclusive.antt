@@ -13,12 +13,12 @@ use native.Mathlib.Omega.{arith}
 use Rattle.mark.specs.Code.{Code, IsMessage, IsArray, encoded}
 use Rattle.mark.proofs.Proper.{Proper}
 use Rattle.mark.proofs.Columns.{wrongPoints}
-use Rattle.joint.specs.Locators.{Locator, Least, OnlyOne, Divides}
-use Rattle.joint.specs.Endings.{codeOf, Buffers, Corrects, TwoApart, DividesNot, Ends}
-use Rattle.joint.specs.declared.Ending.{Ending}
-use Rattle.joint.specs.declared.Ending.the-variants.{Refused, Corrected, Nothing, Several, Hollow}
-use Rattle.joint.proofs.Division.{divides-exactly}
-use Rattle.joint.proofs.Multiples.{multiple-both, multiple-vanishes}
+use Rattle.ending.specs.Locators.{Locator, Least, OnlyOne, Divides}
+use Rattle.ending.specs.Endings.{codeOf, Buffers, Corrects, TwoApart, DividesNot, Ends}
+use Rattle.ending.specs.declared.Ending.{Ending}
+use Rattle.ending.specs.declared.Ending.the-variants.{Refused, Corrected, Nothing, Several, Hollow}
+use Rattle.ending.proofs.Division.{divides-exactly}
+use Rattle.ending.proofs.Multiples.{multiple-both, multiple-vanishes}
 
 pub least-same : {c : Code} {y : List ℕ} {τ τ′ t t′ : ℕ} → Least c y τ t → Least c y τ′ t′ → t ≡ t′
 least-same {c} {y} {τ} {τ′} {t} {t′} h g = go (decLt t t′) (decLt t′ t)

@@ -11,10 +11,10 @@ use Rattle.refusal.specs.Refusal.{first}
 use Rattle.mark.specs.Code.{Code}
 use Rattle.mark.specs.Checks.{decodeChecks}
 use Rattle.mark.proofs.Passed.{PassedDecoding, decoding}
-use Rattle.joint.specs.Endings.{Buffers, Ends}
-use Rattle.joint.proofs.Unique.{unique}
-use Rattle.joint.proofs.Model.{Outcome, decided}
-use Rattle.joint.proofs.ModelEnds.{model-ends}
+use Rattle.ending.specs.Endings.{Buffers, Ends}
+use Rattle.ending.proofs.Unique.{unique}
+use Rattle.ending.proofs.Model.{Outcome, decided}
+use Rattle.ending.proofs.ModelEnds.{model-ends}
 
 module _ (c : Code) (τ : ℕ) (y w : List ℕ) (lent : Buffers)
     (passes : first (decodeChecks c τ y (lent .array) (lent .flags) w) ≡ 0)

@@ -18,10 +18,10 @@ use Rattle.poly.proofs.Forms.{reduce, newtonValue}
 use Rattle.mark.specs.Code.{Code, rows}
 use Rattle.basis.proofs.Lines.{Row, Line, solve, least, another, size, locatorOf}
 use Rattle.basis.proofs.Lists.{Holds}
-use Rattle.joint.specs.Endings.{Buffers}
-use Rattle.joint.specs.declared.Ending.{Ending}
-use Rattle.joint.specs.declared.Ending.the-variants.{Corrected, Nothing, Several, Hollow}
-use Rattle.joint.proofs.WrongColumns.{rootFlags, rootCount}
+use Rattle.ending.specs.Endings.{Buffers}
+use Rattle.ending.specs.declared.Ending.{Ending}
+use Rattle.ending.specs.declared.Ending.the-variants.{Corrected, Nothing, Several, Hollow}
+use Rattle.ending.proofs.WrongColumns.{rootFlags, rootCount}
 
 unfoldable pub right : {K : Type 0} → List ℕ → List K → List K
 right [] l = []

@@ -23,8 +23,8 @@ use Rattle.mark.proofs.Proper.{Within, Proper}
 use Rattle.mark.proofs.Limits.{Room}
 use Rattle.mark.proofs.Messages.{first-row, other-rows}
 use Rattle.mark.proofs.Columns.{Agree, agree-exactly, wrongPoints, wrong-exactly}
-use Rattle.joint.specs.Locators.{RowsFit, Locator, RowsDivide, Divides}
-use Rattle.joint.proofs.Rows.{poly-product, fits-unique, fits-product, fits-shared}
+use Rattle.ending.specs.Locators.{RowsFit, Locator, RowsDivide, Divides}
+use Rattle.ending.proofs.Rows.{poly-product, fits-unique, fits-product, fits-shared}
 
 -- of two statements at each column, each or else R: both or else R
 each : (R P Q : ℕ → Type 0) (n : ℕ)

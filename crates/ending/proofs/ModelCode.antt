@@ -14,9 +14,9 @@ use Rattle.mark.proofs.Proper.{Proper}
 use Rattle.mark.proofs.Messages.{messageOf, Reduced, array-message, its-message}
 use Rattle.mark.proofs.Flags.{flags-same}
 use Rattle.mark.proofs.Columns.{differs-exactly}
-use Rattle.joint.specs.Endings.{Buffers, Ends}
-use Rattle.joint.specs.declared.Ending.the-variants.{Corrected}
-use Rattle.joint.proofs.Demands.{near-corrects}
+use Rattle.ending.specs.Endings.{Buffers, Ends}
+use Rattle.ending.specs.declared.Ending.the-variants.{Corrected}
+use Rattle.ending.proofs.Demands.{near-corrects}
 
 no-flags : (i n : ℕ) → flagsFrom (λ j. false) i n ≡ replicate n 0
 unfolding flagsFrom

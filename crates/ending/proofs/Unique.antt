@@ -10,11 +10,11 @@ use native.Mathlib.Decide.{ℕ-discrete}
 use native.Mathlib.Omega.{arith}
 use Rattle.mark.specs.Code.{Code, IsArray, flagsOf, wrongCount, jointLimit}
 use Rattle.mark.proofs.Proper.{Proper}
-use Rattle.joint.specs.Endings.{codeOf, Buffers, Corrects, Ends}
-use Rattle.joint.specs.declared.Ending.{Ending}
-use Rattle.joint.specs.declared.Ending.the-variants.{Refused, Corrected, Nothing, Several, Hollow}
-use Rattle.joint.proofs.Exclusive.{least-same, exclusive}
-use Rattle.joint.proofs.Demands.{Nearest, corrected-means}
+use Rattle.ending.specs.Endings.{codeOf, Buffers, Corrects, Ends}
+use Rattle.ending.specs.declared.Ending.{Ending}
+use Rattle.ending.specs.declared.Ending.the-variants.{Refused, Corrected, Nothing, Several, Hollow}
+use Rattle.ending.proofs.Exclusive.{least-same, exclusive}
+use Rattle.ending.proofs.Demands.{Nearest, corrected-means}
 
 same-buffers : {a b : Buffers} → a .array ≡ b .array → a .flags ≡ b .flags → a ≡ b
 same-buffers p q i = record { array = p i; flags = q i }

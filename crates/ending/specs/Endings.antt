@@ -8,9 +8,9 @@ use mathlib.Core.Path.{_≡_}
 use mathlib.Core.List.{List}
 use Prim.Native.Nat.{ℕ, _+_, _*_, _≤_}
 use Rattle.mark.specs.Code.{Code, IsMessage, encoded, flagsOf, wrongCount}
-use Rattle.joint.specs.Locators.{Locator, Multiple, Least, OnlyOne, Divides}
-use Rattle.joint.specs.declared.Ending.{Ending}
-use Rattle.joint.specs.declared.Ending.the-variants.{Refused, Corrected, Nothing, Several, Hollow}
+use Rattle.ending.specs.Locators.{Locator, Multiple, Least, OnlyOne, Divides}
+use Rattle.ending.specs.declared.Ending.{Ending}
+use Rattle.ending.specs.declared.Ending.the-variants.{Refused, Corrected, Nothing, Several, Hollow}
 
 -- 'ending | code'
 abbrev pub codeOf : Ending → ℕ

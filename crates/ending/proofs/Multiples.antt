@@ -19,7 +19,7 @@ use Rattle.poly.proofs.Roots.{Vanishes}
 use Rattle.mark.specs.Code.{Code}
 use Rattle.mark.proofs.Parts.{all-map}
 use Rattle.mark.proofs.Proper.{Proper}
-use Rattle.joint.specs.Locators.{Multiple}
+use Rattle.ending.specs.Locators.{Multiple}
 
 module _ {c : Code} (p : Proper c) where
   abbrev A : Arithmetic ℕ

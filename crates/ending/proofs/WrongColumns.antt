@@ -28,11 +28,11 @@ use Rattle.mark.proofs.Parts.{all-map, all-append, row-length, rest-length}
 use Rattle.mark.proofs.Proper.{Within, Proper}
 use Rattle.mark.proofs.Flags.{flags-same, pointsWhere, count-where, where-exactly, all-where, distinct-where, mem-self, mem-at}
 use Rattle.mark.proofs.Columns.{Agree, agree-exactly, wrongPoints, wrong-count, wrong-distinct, wrong-symbols, wrong-exactly, wrong-at}
-use Rattle.joint.specs.Locators.{RowsFit, Locator, Least, RowsDivide, Divides}
-use Rattle.joint.proofs.Locators.{Fitted}
-use Rattle.joint.proofs.Rows.{fits-vanishes, row-quotient}
-use Rattle.joint.proofs.Division.{divides-exactly, divides-fits}
-use Rattle.joint.proofs.Multiples.{constant-nonzero, vanishes-multiple}
+use Rattle.ending.specs.Locators.{RowsFit, Locator, Least, RowsDivide, Divides}
+use Rattle.ending.proofs.Locators.{Fitted}
+use Rattle.ending.proofs.Rows.{fits-vanishes, row-quotient}
+use Rattle.ending.proofs.Division.{divides-exactly, divides-fits}
+use Rattle.ending.proofs.Multiples.{constant-nonzero, vanishes-multiple}
 
 abbrev pub rootAt : Code → List ℕ → ℕ → Bool
 rootAt c E i = eqb (value (gf (c .degree)) E (getD (c .points) i 0)) 0

@@ -19,13 +19,13 @@ use Rattle.mark.proofs.Limits.{Room, joint-room}
 use Rattle.basis.proofs.Lines.{Line, least, another, size, locatorOf}
 use Rattle.basis.proofs.Locates.{Plain}
 use Rattle.basis.proofs.LeastSize.{LeastLocator, least-found, least-size, one-locator, two-locators}
-use Rattle.joint.specs.Locators.{Locator, Least, OnlyOne, Divides}
-use Rattle.joint.specs.Endings.{Buffers, Corrects, TwoApart, Ends}
-use Rattle.joint.proofs.WrongColumns.{rootAt, rootFlags, rootCount, wrong-number, wrong-columns, right-columns, divides-roots}
-use Rattle.joint.proofs.Model.{rowsOf, linesOf, filled, Outcome, Beyond, beyond, divided, alone, within, lowest, decided}
-use Rattle.joint.proofs.ModelRows.{rows-count, rows-symbols, rows-plain, locator-exactly}
-use Rattle.joint.proofs.ModelFlags.{flags-length, flag-right}
-use Rattle.joint.proofs.ModelFilled.{filled-code}
+use Rattle.ending.specs.Locators.{Locator, Least, OnlyOne, Divides}
+use Rattle.ending.specs.Endings.{Buffers, Corrects, TwoApart, Ends}
+use Rattle.ending.proofs.WrongColumns.{rootAt, rootFlags, rootCount, wrong-number, wrong-columns, right-columns, divides-roots}
+use Rattle.ending.proofs.Model.{rowsOf, linesOf, filled, Outcome, Beyond, beyond, divided, alone, within, lowest, decided}
+use Rattle.ending.proofs.ModelRows.{rows-count, rows-symbols, rows-plain, locator-exactly}
+use Rattle.ending.proofs.ModelFlags.{flags-length, flag-right}
+use Rattle.ending.proofs.ModelFilled.{filled-code}
 
 module _ {c : Code} (p : Proper c) {y : List ℕ} (received : IsArray c y) (τ : ℕ) (limit : τ ≤ jointLimit c) (lent : Buffers) where
   abbrev A : Arithmetic ℕ

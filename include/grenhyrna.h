@@ -1,0 +1,111 @@
+/* Grenhyrna: marks struck on bar ends, encoded, read and decoded. C99 and C++.
+ *
+ * Every function is proved to do what is said here for every input: it ends, it reads and writes nothing but the buffers lent, and
+ * it needs no set-up. Link libfirmware.a (x86-64); of its host it needs memcpy and memset alone.
+ *
+ * A code is a field GF(2^degree), columns distinct points (one a column), and rows message lengths k (one a row), each from 1 to
+ * the number of columns. K is the sum of the lengths. A message is K coefficients, lowest first, row after row. An array is
+ * rows · columns symbols, row after row; a code array's row l holds the values at the points of a polynomial with at most k_l
+ * coefficients. A symbol is one byte below 2^degree.
+ *
+ * A ring over GF(q²), q = 2 or 4, is q³ symbols in the order of its points, q a sector, q² sectors; H(m) has the q message lengths
+ * (m − j(q+1))/q rounded down, plus 1.
+ *
+ * Buffers may not overlap, and a length is the number of bytes behind its pointer. A buffer of no bytes still needs a pointer that
+ * is not null.
+ *
+ * ENCODING AND READING answer GREN_DONE (256) with the result written, or the number of the refusal (1 to 11) with the result
+ * buffer as it was.
+ *
+ * DECODING answers 256 · code + detail:
+ *
+ *   code              detail                      answer and flags
+ *   GREN_REFUSED 0    number of the refusal       as they were; the working space too
+ *   GREN_CORRECTED 1  number of wrong columns     written: the only nearest code array, and a flag a column, 1 where it was wrong
+ *   GREN_NONE 2       0                           as they were: no code array is within the limit
+ *   GREN_SEVERAL 3    size of the locators        as they were: more than one way to go on
+ *   GREN_HOLLOW 4     size of the locator         as they were: a locator was found, and it locates no code array
+ *
+ * After every decoding that is not refused the first GREN_SPACE bytes of the working space are zero; bytes beyond are never
+ * touched. The trial limit may go up to the joint limit, the smaller of (rows·columns − K)/(rows + 1) rounded down and
+ * columns − k_max. At the safe limit (columns − k_max)/2 rounded down, or below, any ending but "corrected" and "refused" means that
+ * no code array is within the limit.
+ */
+#ifndef GRENHYRNA_H
+#define GRENHYRNA_H
+
+#include <stddef.h>
+#include <stdint.h>
+
+#ifdef __cplusplus
+extern "C" {
+#endif
+
+enum {
+    GREN_MOST_ROWS = 4,
+    GREN_MOST_COLUMNS = 96,
+    GREN_MOST_SYMBOLS = 384, /* rows · columns, and so K */
+    GREN_SPACE = 49152       /* bytes of working space */
+};
+
+/* What encoding and reading answer when they are not refused. */
+enum { GREN_DONE = 256 };
+
+/* The codes of a decoding's answer: gren_code(answer) and gren_detail(answer) take it apart. */
+enum { GREN_REFUSED = 0, GREN_CORRECTED = 1, GREN_NONE = 2, GREN_SEVERAL = 3, GREN_HOLLOW = 4 };
+
+static inline uint32_t gren_code(uint32_t answer)
+{
+    return answer / 256;
+}
+
+static inline uint32_t gren_detail(uint32_t answer)
+{
+    return answer % 256;
+}
+
+/* The numbers of the refusals, in the order of checking: the first that applies is the answer. Marks check 1 to 7, then reading 9
+ * and decoding 8; rings check 10, 11, 5, 7, then reading 9 and decoding 8. */
+enum {
+    GREN_BAD_DEGREE = 1,     /* degree is not 2, 4 or 8 */
+    GREN_BAD_ROWS = 2,       /* count of the lengths is not 1 to 4 */
+    GREN_BAD_COLUMNS = 3,    /* count of the points is not 1 to 96 */
+    GREN_BAD_LENGTH = 4,     /* some k is not 1 to the number of columns */
+    GREN_BAD_BUFFER = 5,     /* a buffer's length: message K, array rows·columns (ring q³), flags columns (ring q²), space at least
+                                GREN_SPACE */
+    GREN_BAD_POINT = 6,      /* a point is outside the field or stood earlier in the list */
+    GREN_BAD_SYMBOL = 7,     /* a symbol is outside the field */
+    GREN_BAD_LIMIT = 8,      /* the trial limit is above the joint limit */
+    GREN_NO_CODE_ARRAY = 9,  /* reading: not a code array */
+    GREN_BAD_Q = 10,         /* q is not 2 or 4 */
+    GREN_BAD_M = 11          /* m is not q²−1 to q³−1 */
+};
+
+/* Writes the code array of a message. */
+uint32_t gren_mark_encode(uint32_t degree, const uint8_t *lengths, size_t rows, const uint8_t *points, size_t columns,
+                          const uint8_t *message, size_t message_length, uint8_t *array, size_t array_length);
+
+/* Writes the message of a code array; GREN_NO_CODE_ARRAY where the array is none. */
+uint32_t gren_mark_read(uint32_t degree, const uint8_t *lengths, size_t rows, const uint8_t *points, size_t columns,
+                        const uint8_t *array, size_t array_length, uint8_t *message, size_t message_length);
+
+/* Decodes a received array up to the trial limit. */
+uint32_t gren_mark_decode(uint32_t degree, const uint8_t *lengths, size_t rows, const uint8_t *points, size_t columns,
+                          uint32_t limit, const uint8_t *received, size_t received_length, uint8_t *answer, size_t answer_length,
+                          uint8_t *flags, size_t flags_length, uint8_t *space, size_t space_length);
+
+/* Writes the word of H(m) of a message. */
+uint32_t gren_ring_encode(uint32_t q, uint32_t m, const uint8_t *message, size_t message_length, uint8_t *word,
+                          size_t word_length);
+
+/* Writes the message of a word of H(m); GREN_NO_CODE_ARRAY where it is none. */
+uint32_t gren_ring_read(uint32_t q, uint32_t m, const uint8_t *word, size_t word_length, uint8_t *message, size_t message_length);
+
+/* Decodes a received ring up to the trial limit, by sectors: columns above are sectors here. */
+uint32_t gren_ring_decode(uint32_t q, uint32_t m, uint32_t limit, const uint8_t *received, size_t received_length, uint8_t *answer,
+                          size_t answer_length, uint8_t *flags, size_t flags_length, uint8_t *space, size_t space_length);
+
+#ifdef __cplusplus
+}
+#endif
+#endif

@@ -1,0 +1,494 @@
+#include "second.h"
+
+#include <stdlib.h>
+#include <string.h>
+
+enum { MOST = 400 };
+
+/* ---- fields */
+
+static unsigned modulus(unsigned degree)
+{
+    return degree == 2 ? 0x7 : degree == 4 ? 0x13 : 0x11D;
+}
+
+unsigned second_product(unsigned degree, unsigned a, unsigned b)
+{
+    unsigned whole = 0;
+    for (unsigned i = 0; i < degree; i++)
+        if (b >> i & 1)
+            whole ^= a << i;
+    for (unsigned i = 2 * degree; i >= degree; i--)
+        if (whole >> i & 1)
+            whole ^= modulus(degree) << (i - degree);
+    return whole;
+}
+
+unsigned second_inverse(unsigned degree, unsigned a)
+{
+    for (unsigned c = 1; c < 1u << degree; c++)
+        if (second_product(degree, a, c) == 1)
+            return c;
+    return 0;
+}
+
+static unsigned value(unsigned degree, const uint8_t *p, size_t count, unsigned x)
+{
+    unsigned sum = 0, power = 1;
+    for (size_t i = 0; i < count; i++) {
+        sum ^= second_product(degree, p[i], power);
+        power = second_product(degree, power, x);
+    }
+    return sum;
+}
+
+/* ---- linear algebra: a basis of the solutions of `rows` homogeneous equations in `unknowns` unknowns */
+
+struct solutions {
+    size_t count;
+    uint8_t (*basis)[MOST];
+};
+
+static struct solutions solve(unsigned degree, uint8_t (*equations)[MOST], size_t rows, size_t unknowns)
+{
+    size_t pivot_of[MOST], rank = 0;
+    uint8_t is_pivot[MOST] = {0};
+    for (size_t column = 0; column < unknowns && rank < rows; column++) {
+        size_t r = rank;
+        while (r < rows && equations[r][column] == 0)
+            r++;
+        if (r == rows)
+            continue;
+        uint8_t swap[MOST];
+        memcpy(swap, equations[r], MOST);
+        memcpy(equations[r], equations[rank], MOST);
+        unsigned inverse = second_inverse(degree, swap[column]);
+        for (size_t i = 0; i < unknowns; i++)
+            equations[rank][i] = (uint8_t)second_product(degree, swap[i], inverse);
+        for (size_t other = 0; other < rows; other++) {
+            unsigned factor = equations[other][column];
+            if (other != rank && factor)
+                for (size_t i = 0; i < unknowns; i++)
+                    equations[other][i] ^= (uint8_t)second_product(degree, factor, equations[rank][i]);
+        }
+        pivot_of[rank++] = column;
+        is_pivot[column] = 1;
+    }
+    struct solutions s = {0, calloc(unknowns - rank + 1, MOST)};
+    for (size_t column = 0; column < unknowns; column++) {
+        if (is_pivot[column])
+            continue;
+        uint8_t *v = s.basis[s.count++];
+        v[column] = 1;
+        for (size_t r = 0; r < rank; r++)
+            v[pivot_of[r]] = equations[r][column];
+    }
+    return s;
+}
+
+/* ---- checks */
+
+static int bad_degree(uint32_t degree)
+{
+    return degree != 2 && degree != 4 && degree != 8;
+}
+
+static unsigned total(const uint8_t *lengths, size_t rows)
+{
+    unsigned sum = 0;
+    for (size_t l = 0; l < rows; l++)
+        sum += lengths[l];
+    return sum;
+}
+
+static unsigned largest(const uint8_t *lengths, size_t rows)
+{
+    unsigned most = 0;
+    for (size_t l = 0; l < rows; l++)
+        most = lengths[l] > most ? lengths[l] : most;
+    return most;
+}
+
+unsigned second_joint_limit(const uint8_t *lengths, size_t rows, size_t columns)
+{
+    unsigned a = (unsigned)((rows * columns - total(lengths, rows)) / (rows + 1));
+    unsigned b = (unsigned)columns - largest(lengths, rows);
+    return a < b ? a : b;
+}
+
+unsigned second_safe_limit(const uint8_t *lengths, size_t rows, size_t columns)
+{
+    return ((unsigned)columns - largest(lengths, rows)) / 2;
+}
+
+static int outside(uint32_t degree, const uint8_t *symbols, size_t count)
+{
+    for (size_t i = 0; i < count; i++)
+        if (symbols[i] >> degree)
+            return 1;
+    return 0;
+}
+
+static unsigned code_check(uint32_t degree, const uint8_t *lengths, size_t rows, size_t columns)
+{
+    if (bad_degree(degree))
+        return 1;
+    if (rows < 1 || rows > 4)
+        return 2;
+    if (columns < 1 || columns > 96)
+        return 3;
+    for (size_t l = 0; l < rows; l++)
+        if (lengths[l] < 1 || lengths[l] > columns)
+            return 4;
+    return 0;
+}
+
+static int bad_points(uint32_t degree, const uint8_t *points, size_t columns)
+{
+    for (size_t i = 0; i < columns; i++) {
+        if (points[i] >> degree)
+            return 1;
+        for (size_t j = 0; j < i; j++)
+            if (points[j] == points[i])
+                return 1;
+    }
+    return 0;
+}
+
+/* ---- marks */
+
+static void encode_rows(unsigned degree, const uint8_t *lengths, size_t rows, const uint8_t *points, size_t columns,
+                        const uint8_t *message, uint8_t *array)
+{
+    for (size_t l = 0; l < rows; l++) {
+        for (size_t i = 0; i < columns; i++)
+            array[l * columns + i] = (uint8_t)value(degree, message, lengths[l], points[i]);
+        message += lengths[l];
+    }
+}
+
+uint32_t second_mark_encode(uint32_t degree, const uint8_t *lengths, size_t rows, const uint8_t *points, size_t columns,
+                            const uint8_t *message, size_t message_length, uint8_t *array, size_t array_length)
+{
+    unsigned k = code_check(degree, lengths, rows, columns);
+    if (k)
+        return k;
+    if (message_length != total(lengths, rows) || array_length != rows * columns)
+        return 5;
+    if (bad_points(degree, points, columns))
+        return 6;
+    if (outside(degree, message, message_length))
+        return 7;
+    encode_rows(degree, lengths, rows, points, columns, message, array);
+    return 256;
+}
+
+/* The polynomial of at most k coefficients through a row, if there is one. */
+static int row_polynomial(unsigned degree, unsigned k, const uint8_t *points, size_t columns, const uint8_t *row, uint8_t *p)
+{
+    /* unknowns: the coefficients, and a factor of the row that must not vanish */
+    uint8_t(*equations)[MOST] = calloc(columns, MOST);
+    for (size_t i = 0; i < columns; i++) {
+        unsigned power = 1;
+        equations[i][0] = row[i];
+        for (unsigned j = 0; j < k; j++) {
+            equations[i][1 + j] = (uint8_t)power;
+            power = second_product(degree, power, points[i]);
+        }
+    }
+    struct solutions s = solve(degree, equations, columns, 1 + k);
+    int found = 0;
+    for (size_t b = 0; b < s.count && !found; b++) {
+        if (s.basis[b][0] == 0)
+            continue;
+        unsigned inverse = second_inverse(degree, s.basis[b][0]);
+        for (unsigned j = 0; j < k; j++)
+            p[j] = (uint8_t)second_product(degree, inverse, s.basis[b][1 + j]);
+        found = 1;
+    }
+    free(s.basis);
+    free(equations);
+    return found;
+}
+
+uint32_t second_mark_read(uint32_t degree, const uint8_t *lengths, size_t rows, const uint8_t *points, size_t columns,
+                          const uint8_t *array, size_t array_length, uint8_t *message, size_t message_length)
+{
+    unsigned k = code_check(degree, lengths, rows, columns);
+    if (k)
+        return k;
+    if (message_length != total(lengths, rows) || array_length != rows * columns)
+        return 5;
+    if (bad_points(degree, points, columns))
+        return 6;
+    if (outside(degree, array, array_length))
+        return 7;
+    uint8_t found[MOST] = {0};
+    size_t from = 0;
+    for (size_t l = 0; l < rows; l++) {
+        if (!row_polynomial(degree, lengths[l], points, columns, array + l * columns, found + from))
+            return 9;
+        from += lengths[l];
+    }
+    memcpy(message, found, message_length);
+    return 256;
+}
+
+/* p divided by e: the quotient, if nothing is left over; its number of coefficients, leading zeros not counted, in *count. */
+static int divide(unsigned degree, const uint8_t *p, size_t p_count, const uint8_t *e, size_t e_count, uint8_t *quotient,
+                  size_t *count)
+{
+    uint8_t rest[MOST];
+    memcpy(rest, p, p_count);
+    memset(quotient, 0, MOST);
+    while (e_count && e[e_count - 1] == 0)
+        e_count--;
+    unsigned inverse = second_inverse(degree, e[e_count - 1]);
+    *count = 0;
+    for (size_t top = p_count; top-- > 0;) {
+        if (rest[top] == 0)
+            continue;
+        if (top + 1 < e_count)
+            return 0;
+        unsigned c = second_product(degree, rest[top], inverse);
+        size_t place = top + 1 - e_count;
+        quotient[place] = (uint8_t)c;
+        if (place + 1 > *count)
+            *count = place + 1;
+        for (size_t i = 0; i < e_count; i++)
+            rest[place + i] ^= (uint8_t)second_product(degree, c, e[i]);
+    }
+    return 1;
+}
+
+/* The ending of a decoding that is not refused; answer and flags are written on "corrected" alone. */
+static uint32_t endings(unsigned degree, const uint8_t *lengths, size_t rows, const uint8_t *points, size_t columns, uint32_t limit,
+                        const uint8_t *received, uint8_t *answer, uint8_t *flags)
+{
+    for (uint32_t t = 0; t <= limit; t++) {
+        size_t unknowns = t + 1, base[4];
+        for (size_t l = 0; l < rows; l++) {
+            base[l] = unknowns;
+            unknowns += lengths[l] + t;
+        }
+        uint8_t(*equations)[MOST] = calloc(rows * columns, MOST);
+        for (size_t l = 0; l < rows; l++)
+            for (size_t i = 0; i < columns; i++) {
+                uint8_t *row = equations[l * columns + i];
+                unsigned power = 1;
+                for (size_t j = 0; j < lengths[l] + t; j++) {
+                    if (j <= t)
+                        row[j] = (uint8_t)second_product(degree, received[l * columns + i], power);
+                    row[base[l] + j] = (uint8_t)power;
+                    power = second_product(degree, power, points[i]);
+                }
+            }
+        struct solutions s = solve(degree, equations, rows * columns, unknowns);
+        free(equations);
+        /* the E of all solutions, as one space */
+        size_t one = s.count, independent = 0;
+        for (size_t b = 0; b < s.count && independent < 2; b++) {
+            int zero = 1;
+            for (size_t j = 0; j <= t; j++)
+                zero &= s.basis[b][j] == 0;
+            if (zero)
+                continue;
+            if (one == s.count) {
+                one = b;
+                independent = 1;
+                continue;
+            }
+            for (size_t i = 0; i <= t && independent < 2; i++)
+                for (size_t j = 0; j <= t; j++)
+                    if (second_product(degree, s.basis[one][i], s.basis[b][j])
+                        != second_product(degree, s.basis[one][j], s.basis[b][i])) {
+                        independent = 2;
+                        break;
+                    }
+        }
+        if (independent == 0) {
+            free(s.basis);
+            continue;
+        }
+        if (independent == 2) {
+            free(s.basis);
+            return 256 * 3 + t;
+        }
+        uint8_t rebuilt[384];
+        uint32_t ending = 256 * 1;
+        for (size_t l = 0; l < rows && ending == 256; l++) {
+            uint8_t quotient[MOST];
+            size_t count;
+            if (!divide(degree, s.basis[one] + base[l], lengths[l] + t, s.basis[one], t + 1, quotient, &count)
+                || count > lengths[l])
+                ending = 256 * 4 + t;
+            else
+                for (size_t i = 0; i < columns; i++)
+                    rebuilt[l * columns + i] = (uint8_t)value(degree, quotient, lengths[l], points[i]);
+        }
+        free(s.basis);
+        if (ending != 256)
+            return ending;
+        for (size_t i = 0; i < columns; i++) {
+            flags[i] = 0;
+            for (size_t l = 0; l < rows; l++)
+                flags[i] |= rebuilt[l * columns + i] != received[l * columns + i];
+            ending += flags[i];
+        }
+        memcpy(answer, rebuilt, rows * columns);
+        return ending;
+    }
+    return 256 * 2;
+}
+
+uint32_t second_mark_decode(uint32_t degree, const uint8_t *lengths, size_t rows, const uint8_t *points, size_t columns,
+                            uint32_t limit, const uint8_t *received, size_t received_length, uint8_t *answer,
+                            size_t answer_length, uint8_t *flags, size_t flags_length, uint8_t *space, size_t space_length)
+{
+    unsigned k = code_check(degree, lengths, rows, columns);
+    if (k)
+        return k;
+    if (received_length != rows * columns || answer_length != rows * columns || flags_length != columns
+        || space_length < SECOND_SPACE)
+        return 5;
+    if (bad_points(degree, points, columns))
+        return 6;
+    if (outside(degree, received, received_length))
+        return 7;
+    if (limit > second_joint_limit(lengths, rows, columns))
+        return 8;
+    memset(space, 0, SECOND_SPACE);
+    return endings(degree, lengths, rows, points, columns, limit, received, answer, flags);
+}
+
+/* ---- rings */
+
+static unsigned raised(unsigned degree, unsigned a, unsigned n)
+{
+    unsigned p = 1;
+    while (n--)
+        p = second_product(degree, p, a);
+    return p;
+}
+
+/* The points of the curve in order; both lists have q³ entries. */
+static void ring_points(unsigned q, uint8_t *xs, uint8_t *ys)
+{
+    size_t count = 0;
+    for (unsigned x = 0; x < q * q; x++)
+        for (unsigned y = 0; y < q * q; y++)
+            if ((raised(q, y, q) ^ y) == raised(q, x, q + 1)) {
+                xs[count] = (uint8_t)x;
+                ys[count++] = (uint8_t)y;
+            }
+}
+
+void second_ring_lengths(unsigned q, unsigned m, uint8_t *lengths)
+{
+    for (unsigned j = 0; j < q; j++)
+        lengths[j] = (uint8_t)((m - j * (q + 1)) / q + 1);
+}
+
+static unsigned ring_check(uint32_t q, uint32_t m)
+{
+    if (q != 2 && q != 4)
+        return 10;
+    if (m < q * q - 1 || m > q * q * q - 1)
+        return 11;
+    return 0;
+}
+
+uint32_t second_ring_encode(uint32_t q, uint32_t m, const uint8_t *message, size_t message_length, uint8_t *word,
+                            size_t word_length)
+{
+    uint8_t lengths[4], xs[64], ys[64];
+    unsigned k = ring_check(q, m);
+    if (k)
+        return k;
+    second_ring_lengths(q, m, lengths);
+    if (message_length != total(lengths, q) || word_length != q * q * q)
+        return 5;
+    if (outside(q, message, message_length))
+        return 7;
+    ring_points(q, xs, ys);
+    for (size_t i = 0; i < q * q * q; i++) {
+        const uint8_t *f = message;
+        unsigned sum = 0;
+        for (unsigned j = 0; j < q; j++) {
+            sum ^= second_product(q, value(q, f, lengths[j], xs[i]), raised(q, ys[i], j));
+            f += lengths[j];
+        }
+        word[i] = (uint8_t)sum;
+    }
+    return 256;
+}
+
+/* The array of a ring: in each sector the polynomial in y of q coefficients that has the sector's values. */
+static void ring_array(unsigned q, const uint8_t *ring, uint8_t *array)
+{
+    uint8_t xs[64], ys[64], p[4];
+    ring_points(q, xs, ys);
+    for (unsigned x = 0; x < q * q; x++) {
+        row_polynomial(q, q, ys + x * q, q, ring + x * q, p);
+        for (unsigned j = 0; j < q; j++)
+            array[j * q * q + x] = p[j];
+    }
+}
+
+static void array_ring(unsigned q, const uint8_t *array, uint8_t *ring)
+{
+    uint8_t xs[64], ys[64];
+    ring_points(q, xs, ys);
+    for (size_t i = 0; i < q * q * q; i++) {
+        unsigned sum = 0;
+        for (unsigned j = 0; j < q; j++)
+            sum ^= second_product(q, array[j * q * q + xs[i]], raised(q, ys[i], j));
+        ring[i] = (uint8_t)sum;
+    }
+}
+
+uint32_t second_ring_read(uint32_t q, uint32_t m, const uint8_t *word, size_t word_length, uint8_t *message, size_t message_length)
+{
+    uint8_t lengths[4], points[16], array[64], found[64];
+    unsigned k = ring_check(q, m);
+    if (k)
+        return k;
+    second_ring_lengths(q, m, lengths);
+    if (message_length != total(lengths, q) || word_length != q * q * q)
+        return 5;
+    if (outside(q, word, word_length))
+        return 7;
+    for (unsigned x = 0; x < q * q; x++)
+        points[x] = (uint8_t)x;
+    ring_array(q, word, array);
+    uint32_t read = second_mark_read(q, lengths, q, points, q * q, array, q * q * q, found, message_length);
+    if (read != 256)
+        return read;
+    memcpy(message, found, message_length);
+    return 256;
+}
+
+uint32_t second_ring_decode(uint32_t q, uint32_t m, uint32_t limit, const uint8_t *received, size_t received_length,
+                            uint8_t *answer, size_t answer_length, uint8_t *flags, size_t flags_length, uint8_t *space,
+                            size_t space_length)
+{
+    uint8_t lengths[4], points[16], array[64], rebuilt[64];
+    unsigned k = ring_check(q, m);
+    if (k)
+        return k;
+    second_ring_lengths(q, m, lengths);
+    if (received_length != q * q * q || answer_length != q * q * q || flags_length != q * q || space_length < SECOND_SPACE)
+        return 5;
+    if (outside(q, received, received_length))
+        return 7;
+    if (limit > second_joint_limit(lengths, q, q * q))
+        return 8;
+    for (unsigned x = 0; x < q * q; x++)
+        points[x] = (uint8_t)x;
+    memset(space, 0, SECOND_SPACE);
+    ring_array(q, received, array);
+    uint32_t ending = endings(q, lengths, q, points, q * q, limit, array, rebuilt, flags);
+    if (ending / 256 == 1)
+        array_ring(q, rebuilt, answer);
+    return ending;
+}

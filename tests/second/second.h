@@ -1,0 +1,36 @@
+/* The second program: an independent account of 01, written from its definitions alone. Fields by shift and exclusive or, locators
+ * by plain linear algebra over all unknowns, division by long division, rings by trying all pairs. It shares nothing with the
+ * proved code and is slow on purpose. */
+#ifndef SECOND_H
+#define SECOND_H
+#include <stddef.h>
+#include <stdint.h>
+
+enum { SECOND_SPACE = 49152 };
+
+unsigned second_product(unsigned degree, unsigned a, unsigned b);
+unsigned second_inverse(unsigned degree, unsigned a);
+
+/* The same parameters in the same order as the calls of grenhyrna.h, each answering the same number. Buffers are changed just as
+ * 01 says. */
+uint32_t second_mark_encode(uint32_t degree, const uint8_t *lengths, size_t rows, const uint8_t *points, size_t columns,
+                            const uint8_t *message, size_t message_length, uint8_t *array, size_t array_length);
+uint32_t second_mark_read(uint32_t degree, const uint8_t *lengths, size_t rows, const uint8_t *points, size_t columns,
+                          const uint8_t *array, size_t array_length, uint8_t *message, size_t message_length);
+uint32_t second_mark_decode(uint32_t degree, const uint8_t *lengths, size_t rows, const uint8_t *points, size_t columns,
+                            uint32_t limit, const uint8_t *received, size_t received_length, uint8_t *answer,
+                            size_t answer_length, uint8_t *flags, size_t flags_length, uint8_t *space, size_t space_length);
+uint32_t second_ring_encode(uint32_t q, uint32_t m, const uint8_t *message, size_t message_length, uint8_t *word,
+                            size_t word_length);
+uint32_t second_ring_read(uint32_t q, uint32_t m, const uint8_t *word, size_t word_length, uint8_t *message,
+                          size_t message_length);
+uint32_t second_ring_decode(uint32_t q, uint32_t m, uint32_t limit, const uint8_t *received, size_t received_length,
+                            uint8_t *answer, size_t answer_length, uint8_t *flags, size_t flags_length, uint8_t *space,
+                            size_t space_length);
+
+/* Limits of a code whose checks 1 to 4 pass. */
+unsigned second_joint_limit(const uint8_t *lengths, size_t rows, size_t columns);
+unsigned second_safe_limit(const uint8_t *lengths, size_t rows, size_t columns);
+/* The message lengths of H(m), q of them. */
+void second_ring_lengths(unsigned q, unsigned m, uint8_t *lengths);
+#endif
