@@ -1,0 +1,103 @@
+/* The standard cases of the benchmark: runs one of them COUNT times, by the proved library or by the plain C decoder.
+ *
+ *   bench list                 the cases, a line each
+ *   bench CASE own|plain COUNT
+ */
+#include "grenhyrna.h"
+#include "plain.h"
+
+#include <stdio.h>
+#include <stdlib.h>
+#include <string.h>
+
+struct test {
+    const char *name;
+    char kind; /* d: decode, e: encode, r: read, h: decode a ring */
+    unsigned degree, columns, rows, lengths[4], wrong;
+};
+
+static const struct test tests[] = {
+    {"GF(16) n 16 k 10 9 7 6, 0 wrong", 'd', 4, 16, 4, {10, 9, 7, 6}, 0},
+    {"GF(16) n 16 k 10 9 7 6, 3 wrong", 'd', 4, 16, 4, {10, 9, 7, 6}, 3},
+    {"GF(16) n 16 k 10 9 7 6, 6 wrong", 'd', 4, 16, 4, {10, 9, 7, 6}, 6},
+    {"GF(256) n 96 k 64, 0 wrong", 'd', 8, 96, 1, {64}, 0},
+    {"GF(256) n 96 k 64, 16 wrong", 'd', 8, 96, 1, {64}, 16},
+    {"GF(256) n 96 k 64 x4, 0 wrong", 'd', 8, 96, 4, {64, 64, 64, 64}, 0},
+    {"GF(256) n 96 k 64 x4, 25 wrong", 'd', 8, 96, 4, {64, 64, 64, 64}, 25},
+    {"GF(256) n 96 k 32 x4, 0 wrong", 'd', 8, 96, 4, {32, 32, 32, 32}, 0},
+    {"GF(256) n 96 k 32 x4, 51 wrong", 'd', 8, 96, 4, {32, 32, 32, 32}, 51},
+    {"ring H(37), 0 wrong sectors", 'h', 4, 16, 4, {10, 9, 7, 6}, 0},
+    {"ring H(37), 3 wrong sectors", 'h', 4, 16, 4, {10, 9, 7, 6}, 3},
+    {"ring H(37), 6 wrong sectors", 'h', 4, 16, 4, {10, 9, 7, 6}, 6},
+    {"encode GF(256) n 96 k 64 x4", 'e', 8, 96, 4, {64, 64, 64, 64}, 0},
+    {"read GF(256) n 96 k 64 x4", 'r', 8, 96, 4, {64, 64, 64, 64}, 0},
+};
+
+static uint8_t lengths[4], points[96], message[384], array[384], ring[64], answer[384], flags[96], space[GREN_SPACE];
+
+static uint32_t seed = 12345;
+
+static unsigned below(unsigned n)
+{
+    seed = seed * 1103515245u + 12345u;
+    return (seed >> 16) % n;
+}
+
+int main(int argc, char **argv)
+{
+    size_t cases = sizeof tests / sizeof *tests;
+    if (argc == 2 && !strcmp(argv[1], "list")) {
+        for (size_t i = 0; i < cases; i++)
+            printf("%s\n", tests[i].name);
+        return 0;
+    }
+    if (argc != 4 || strtoul(argv[1], NULL, 10) >= cases) {
+        fprintf(stderr, "usage: bench list | bench CASE own|plain COUNT\n");
+        return 2;
+    }
+    struct test t = tests[strtoul(argv[1], NULL, 10)];
+    int own = !strcmp(argv[2], "own");
+    unsigned long count = strtoul(argv[3], NULL, 10);
+    size_t total = 0, symbols = t.rows * t.columns;
+    for (size_t l = 0; l < t.rows; l++)
+        total += lengths[l] = (uint8_t)t.lengths[l];
+    for (size_t i = 0; i < t.columns; i++)
+        points[i] = (uint8_t)i;
+    for (size_t i = 0; i < total; i++)
+        message[i] = (uint8_t)below(1u << t.degree);
+    plain_field(t.degree);
+    plain_encode(lengths, t.rows, points, t.columns, message, array);
+    if (t.kind == 'h')
+        gren_ring_encode(4, 37, message, total, ring, 64);
+    for (size_t w = 0; w < t.wrong; w++) {
+        size_t column = w * t.columns / t.wrong;
+        for (size_t l = 0; l < t.rows; l++) {
+            array[l * t.columns + column] ^= (uint8_t)(1 + below((1u << t.degree) - 1));
+            ring[4 * column % 64 + l] ^= (uint8_t)(1 + below(15));
+        }
+    }
+    uint32_t limit = (uint32_t)((symbols - total) / (t.rows + 1)), expected = 256 + t.wrong, got = expected;
+    if (limit > t.columns - lengths[0])
+        limit = t.columns - lengths[0];
+    for (unsigned long i = 0; i < count; i++) {
+        if (t.kind == 'd')
+            got = own ? gren_mark_decode(t.degree, lengths, t.rows, points, t.columns, limit, array, symbols, answer, symbols, flags,
+                                         t.columns, space, sizeof space)
+                      : plain_decode(lengths, t.rows, points, t.columns, limit, array, answer, flags);
+        else if (t.kind == 'h')
+            got = own ? gren_ring_decode(4, 37, limit, ring, 64, answer, 64, flags, 16, space, sizeof space)
+                      : plain_decode(lengths, t.rows, points, t.columns, limit, array, answer, flags);
+        else if (t.kind == 'e')
+            got = own ? gren_mark_encode(t.degree, lengths, t.rows, points, t.columns, message, total, answer, symbols)
+                      : (plain_encode(lengths, t.rows, points, t.columns, message, answer), 256u);
+        else
+            got = own ? gren_mark_read(t.degree, lengths, t.rows, points, t.columns, array, symbols, answer, total)
+                      : plain_read(lengths, t.rows, points, t.columns, array, answer) ? 256u
+                                                                                      : 9u;
+        if (got != expected) {
+            fprintf(stderr, "bench: %s: %s answers %u, not %u\n", t.name, argv[2], got, expected);
+            return 1;
+        }
+    }
+    return 0;
+}

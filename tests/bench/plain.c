@@ -1,0 +1,176 @@
+#include "plain.h"
+
+#include <string.h>
+
+enum { LINES = 5, MOST = 384 };
+
+static uint8_t powers[512], exponents[256];
+static unsigned order;
+
+void plain_field(unsigned degree)
+{
+    unsigned modulus = degree == 2 ? 0x7 : degree == 4 ? 0x13 : 0x11D, c = 1;
+    order = (1u << degree) - 1;
+    for (unsigned i = 0; i < order; i++) {
+        powers[i] = powers[i + order] = (uint8_t)c;
+        exponents[c] = (uint8_t)i;
+        c <<= 1;
+        if (c >> degree)
+            c ^= modulus;
+    }
+}
+
+static inline uint8_t product(uint8_t a, uint8_t b)
+{
+    return a && b ? powers[exponents[a] + exponents[b]] : 0;
+}
+
+static inline uint8_t quotient(uint8_t a, uint8_t b)
+{
+    return a ? powers[exponents[a] + order - exponents[b]] : 0;
+}
+
+static uint8_t value(const uint8_t *p, size_t count, uint8_t x)
+{
+    uint8_t v = 0;
+    while (count--)
+        v = product(v, x) ^ p[count];
+    return v;
+}
+
+static void reduce(const uint8_t *points, size_t columns, size_t k, uint8_t *u)
+{
+    for (size_t j = 0; j < k; j++)
+        for (size_t i = j + 1; i < columns; i++)
+            u[i] = quotient(u[i] ^ u[j], points[i] ^ points[j]);
+}
+
+void plain_encode(const uint8_t *lengths, size_t rows, const uint8_t *points, size_t columns, const uint8_t *message,
+                  uint8_t *array)
+{
+    for (size_t l = 0; l < rows; message += lengths[l++])
+        for (size_t i = 0; i < columns; i++)
+            *array++ = value(message, lengths[l], points[i]);
+}
+
+int plain_read(const uint8_t *lengths, size_t rows, const uint8_t *points, size_t columns, const uint8_t *array, uint8_t *message)
+{
+    uint8_t own[MOST], *p = own;
+    for (size_t l = 0; l < rows; p += lengths[l++]) {
+        uint8_t u[96];
+        memcpy(u, array + l * columns, columns);
+        reduce(points, columns, lengths[l], u);
+        for (size_t i = lengths[l]; i < columns; i++)
+            if (u[i])
+                return 0;
+        size_t count = 0;
+        for (size_t j = lengths[l]; j-- > 0; count++) {
+            p[count] = 0;
+            for (size_t i = count; i > 0; i--)
+                p[i] = p[i - 1] ^ product(points[j], p[i]);
+            p[0] = product(points[j], p[0]) ^ u[j];
+        }
+    }
+    memcpy(message, own, (size_t)(p - own));
+    return 1;
+}
+
+uint32_t plain_decode(const uint8_t *lengths, size_t rows, const uint8_t *points, size_t columns, uint32_t limit,
+                      const uint8_t *received, uint8_t *answer, uint8_t *flags)
+{
+    static uint8_t values[LINES][MOST], locators[LINES][MOST];
+    uint8_t at[MOST];
+    size_t leads[LINES] = {0}, widths[LINES] = {0}, count = 0, lines = rows + 1;
+    memset(values, 0, sizeof values);
+    memset(locators, 0, sizeof locators);
+    int clean = 1;
+    for (size_t l = 0; l < rows; l++) {
+        uint8_t u[96];
+        memcpy(u, received + l * columns, columns);
+        reduce(points, columns, lengths[l], u);
+        for (size_t i = lengths[l]; i < columns; i++) {
+            values[0][count] = u[i];
+            values[l + 1][count] = 1;
+            at[count++] = points[i];
+            clean &= u[i] == 0;
+        }
+    }
+    if (clean) {
+        memcpy(answer, received, rows * columns);
+        memset(flags, 0, columns);
+        return 256;
+    }
+    for (size_t j = 0; j < lines; j++) {
+        leads[j] = j;
+        widths[j] = 1;
+    }
+    locators[0][0] = 1;
+    for (size_t i = 0; i < count; i++) {
+        size_t p = lines;
+        for (size_t j = 0; j < lines; j++)
+            if (values[j][i] && (p == lines || leads[j] < leads[p]))
+                p = j;
+        if (p == lines)
+            continue;
+        for (size_t j = 0; j < lines; j++) {
+            if (j == p || !values[j][i])
+                continue;
+            uint8_t c = quotient(values[j][i], values[p][i]);
+            const uint8_t *row = powers + exponents[c];
+            for (size_t k = i + 1; k < count; k++)
+                if (values[p][k])
+                    values[j][k] ^= row[exponents[values[p][k]]];
+            for (size_t k = 0; k < widths[p]; k++)
+                if (locators[p][k])
+                    locators[j][k] ^= row[exponents[locators[p][k]]];
+            if (widths[j] < widths[p])
+                widths[j] = widths[p];
+        }
+        for (size_t k = i + 1; k < count; k++)
+            values[p][k] = product(values[p][k], at[k] ^ at[i]);
+        for (size_t k = widths[p]; k > 0; k--)
+            locators[p][k] = locators[p][k - 1] ^ product(at[i], locators[p][k]);
+        locators[p][0] = product(at[i], locators[p][0]);
+        widths[p]++;
+        leads[p] += lines;
+    }
+    size_t best = 0;
+    for (size_t j = 1; j < lines; j++)
+        if (leads[j] < leads[best])
+            best = j;
+    uint32_t t = (uint32_t)((leads[best] + rows) / lines);
+    if (t > limit)
+        return 256 * 2;
+    for (size_t j = 0; j < lines; j++)
+        if (j != best && leads[j] <= t * lines)
+            return 256 * 3 + t;
+    uint8_t good[96], wrong[96], symbols[96];
+    size_t right = 0, bad = 0;
+    for (size_t i = 0; i < columns; i++)
+        if (value(locators[best], t + 1, points[i]))
+            good[right++] = (uint8_t)i;
+        else
+            wrong[bad++] = (uint8_t)i;
+    if (bad != t)
+        return 256 * 4 + t;
+    uint8_t nodes[96];
+    for (size_t i = 0; i < right; i++)
+        nodes[i] = points[good[i]];
+    memcpy(answer, received, rows * columns);
+    memset(flags, 0, columns);
+    for (size_t l = 0; l < rows; l++) {
+        size_t k = lengths[l];
+        for (size_t i = 0; i < k; i++)
+            symbols[i] = received[l * columns + good[i]];
+        reduce(nodes, k, k, symbols);
+        for (size_t b = 0; b < bad; b++) {
+            uint8_t v = 0;
+            for (size_t j = k; j-- > 0;)
+                v = product(v, points[wrong[b]] ^ nodes[j]) ^ symbols[j];
+            answer[l * columns + wrong[b]] = v;
+        }
+    }
+    for (size_t b = 0; b < bad; b++)
+        flags[wrong[b]] = 1;
+    return 256 + t;
+}

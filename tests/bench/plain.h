@@ -1,0 +1,12 @@
+/* A plain C decoder, as an engineer would write it with tables of logarithms: what the benchmark compares with. Valid input only. */
+#ifndef PLAIN_H
+#define PLAIN_H
+#include <stddef.h>
+#include <stdint.h>
+void plain_field(unsigned degree);
+void plain_encode(const uint8_t *lengths, size_t rows, const uint8_t *points, size_t columns, const uint8_t *message,
+                  uint8_t *array);
+int plain_read(const uint8_t *lengths, size_t rows, const uint8_t *points, size_t columns, const uint8_t *array, uint8_t *message);
+uint32_t plain_decode(const uint8_t *lengths, size_t rows, const uint8_t *points, size_t columns, uint32_t limit,
+                      const uint8_t *received, uint8_t *answer, uint8_t *flags);
+#endif
