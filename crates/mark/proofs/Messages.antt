@@ -51,7 +51,7 @@ Reduced c a = ReducedRows (gf (c .degree)) (c .points) (c .lengths) a
 module _ {K : Type 0} (A : Arithmetic K) (𝓕 : Field A) where
   open Arithmetic A using (In)
 
-  length-encoded : (xs : List K) (ks : List ℕ) (m : List K) → length (encodedRows A xs ks m) ≡ length ks * length xs
+  pub length-encoded : (xs : List K) (ks : List ℕ) (m : List K) → length (encodedRows A xs ks m) ≡ length ks * length xs
   unfolding encodedRows
   length-encoded xs [] m = sym (zero-mul (length xs))
   length-encoded xs (k ∷ ks) m = omega (
@@ -138,7 +138,7 @@ module _ {K : Type 0} (A : Arithmetic K) (𝓕 : Field A) where
         let r : length row ≡ length xs = row-length (length ks) (length xs) a l in
         length-newton A 𝓕 k xs (reduce A k xs row) (w .0 .1) (omega (arith, length-reduce A 𝓕 k xs row r))
 
-    length-message : (ks : List ℕ) (a : List K) → Within 1 (length xs) ks → length a ≡ length ks * length xs
+    pub length-message : (ks : List ℕ) (a : List K) → Within 1 (length xs) ks → length a ≡ length ks * length xs
         → length (messageRows A xs ks a) ≡ total ks
     unfolding messageRows total
     length-message [] a w l = refl

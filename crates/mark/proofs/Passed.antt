@@ -2,6 +2,7 @@
 --
 --   Numbered cs           no check of cs has the number 0
 --   stopped, passed-on    over cs ++ ds the first check of cs that applies decides; where none does, ds decides
+--   front-passed          where no check of cs ++ ds applies, none of cs does
 --   total-most, largest-most    lengths up to n: their sum is at most n for each, and the largest at most n
 --   Counts c              what checks 1 to 4 leave; counted, from them and whatever checks follow; counts-of, from them alone
 --   PassedEncoding, PassedReading, PassedDecoding    what the checks of a call leave; encoding, reading, decoding, from them
@@ -39,6 +40,13 @@ passed-on [] ds h e z = refl
 passed-on ((zero when b) ∷ cs) ds h e z = absurd h
 passed-on ((suc k when true) ∷ cs) ds h e z = absurd (omega arith)
 passed-on ((suc k when false) ∷ cs) ds h e z = passed-on cs ds h e z
+
+pub front-passed : (cs ds : List Check) → Numbered cs → 0 ≡ first (cs ++ ds) → 0 ≡ first cs
+unfolding first
+front-passed [] ds h e = refl
+front-passed ((zero when b) ∷ cs) ds h e = absurd h
+front-passed ((suc k when true) ∷ cs) ds h e = absurd (omega arith)
+front-passed ((suc k when false) ∷ cs) ds h e = front-passed cs ds h e
 
 pub total-most : (n : ℕ) (ks : List ℕ) → Within 1 n ks → total ks ≤ length ks * n
 unfolding total

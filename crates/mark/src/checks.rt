@@ -9,7 +9,7 @@ ghost use Rattle.mark.specs.Code.{codeOf, jointLimit, largest, total};
 ghost use Rattle.mark.specs.Checks.{bufferChecks, codeChecks, decodeChecks, encodeChecks, readChecks};
 
 // A byte as a count.
-fn wide(x: u8) -> usize
+pub(crate) fn wide(x: u8) -> usize
     ensures { λ r. ⌜ r ≡ x ⌝ }
 {
     x as usize

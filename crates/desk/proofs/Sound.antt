@@ -1,0 +1,205 @@
+-- What holds of a desk that came from opening and putting.
+--
+--   Spare n l        the places of l from n on are zero
+--   Sound d          the code of d is proper and within the limits of a desk, its array is one of the code, and its places that
+--                    the code does not use are zero
+--   Passed c         what the checks of opening leave; passed, from them
+--   Puttable d i s   what the checks of putting leave; puttable, from them
+--   code-zero        the code of the desk that a code was opened with
+--   sound            a desk that came from opening and putting is sound
+-- Assumes nothing.
+use mathlib.Core.Path.{_≡_, refl, sym, ap, ap₂, _∙_, subst}
+use mathlib.Core.Bool.{false}
+use mathlib.Core.List.{List, [], _∷_}
+use Prim.Native.Nat.{ℕ, zero, suc, _*_, _^_, _≤_, _<_}
+use native.Mathlib.Nat.{mul-le-mul}
+use native.Mathlib.Decide.{decLt}
+use native.Mathlib.Omega.{arith}
+use lib.ListN.{length, getD, take, length-replicate, getD-replicate, List·getD-eq-default}
+use lib.Seq.{length-take-le}
+use lib.Pow.{pow-pos}
+use borrow.Author.Tests.{eqb-true, leb-false, not-false}
+use Rattle.patch.specs.Parts.{lay}
+use Rattle.patch.proofs.Parts.{length-lay, lay-above}
+use Rattle.refusal.specs.Refusal.{first, badDegree, outside, someOutside, outsideField, someOutsideField, isIn, repeated, badPoints}
+use Rattle.refusal.proofs.Laws.{within, clear}
+use Rattle.field.specs.Symbols.{IsSymbol}
+use Rattle.field.proofs.Instance.{field}
+use Rattle.poly.specs.Poly.{All}
+use Rattle.mark.specs.Code.{Code, columns, rows, IsArray}
+use Rattle.mark.specs.Code as mark
+use Rattle.mark.proofs.Parts.{all-take}
+use Rattle.mark.proofs.Proper.{Proper, proper, symbols-test}
+use Rattle.desk.specs.Desk.{codeOf, arrayOf, zeros, zeroDesk, spareCode, deskBy, openChecks, opening, placed, putChecks, putting, Made, opened, put}
+use Rattle.desk.specs.declared.Desk.{Desk}
+use Rattle.desk.proofs.Fronts.{front-of}
+use Rattle.desk.proofs.Columns.{length-column, all-column, column-other, cell}
+
+abbrev pub Spare : ℕ → List ℕ → Type 0
+Spare n l = (i : ℕ) → n ≤ i → getD l i 0 ≡ 0
+
+pub record Sound (d : Desk) : Type 0 where
+  pub degree : badDegree (d .degree) ≡ false
+  pub some-rows : 1 ≤ d .rows
+  pub most-rows : d .rows ≤ 4
+  pub some-columns : 1 ≤ d .columns
+  pub most-columns : d .columns ≤ 16
+  pub cells : d .rows * d .columns ≤ 64
+  pub points : length (d .points) ≡ 16
+  pub lengths : length (d .lengths) ≡ 4
+  pub places : length (d .array) ≡ 64
+  pub columns : columns (codeOf d) ≡ d .columns
+  pub rows : rows (codeOf d) ≡ d .rows
+  pub proper : Proper (codeOf d)
+  pub symbols : All (IsSymbol (d .degree)) (d .array)
+  pub array : IsArray (codeOf d) (arrayOf d)
+  pub spare-points : Spare (d .columns) (d .points)
+  pub spare-lengths : Spare (d .rows) (d .lengths)
+  pub spare-places : Spare (d .rows * d .columns) (d .array)
+
+is-array : (d : Desk) → columns (codeOf d) ≡ d .columns → rows (codeOf d) ≡ d .rows → d .rows * d .columns ≤ 64
+    → length (d .array) ≡ 64 → All (IsSymbol (d .degree)) (d .array) → IsArray (codeOf d) (arrayOf d)
+is-array d n r cells places s = record {
+  count = rw (n, r) (length-take-le (d .rows * d .columns) (d .array) (omega arith));
+  symbols = all-take (IsSymbol (d .degree)) (d .rows * d .columns) (d .array) s;
+}
+
+-- ---- opening
+
+pub record Passed (c : Code) : Type 0 where
+  pub degree : badDegree (c .degree) ≡ false
+  pub some-rows : 1 ≤ rows c
+  pub most-rows : rows c ≤ 4
+  pub some-columns : 1 ≤ columns c
+  pub most-columns : columns c ≤ 16
+  pub proper : Proper c
+
+pub passed : (c : Code) → 0 ≡ first (openChecks c) → Passed c
+passed c e =
+    let p₁ = clear 0 _ _ e in
+    let p₂ = clear 1 _ _ (p₁ .1) in
+    let p₃ = clear 2 _ _ (p₂ .1) in
+    let p₄ = clear 3 _ _ (p₃ .1) in
+    let p₆ = clear 5 _ _ (p₄ .1) in
+    let r = within 1 4 (rows c) (p₂ .0) in
+    let n = within 1 16 (columns c) (p₃ .0) in
+    record {
+      degree = p₁ .0;
+      some-rows = r .0;
+      most-rows = r .1;
+      some-columns = n .0;
+      most-columns = n .1;
+      proper = proper c (field (c .degree) (p₁ .0)) (p₄ .0) (p₆ .0);
+    }
+
+zeros-zero : (n i : ℕ) → getD (zeros n) i 0 ≡ 0
+unfolding zeros
+zeros-zero n i = go (decLt i n)
+  where
+    go : Dec (i < n) → getD (zeros n) i 0 ≡ 0
+    go (yes h) = getD-replicate n i 0 0 h
+    go (no h) = List·getD-eq-default (zeros n) 0 (rw (length-replicate n) (omega arith))
+
+length-zeros : (n : ℕ) → length (zeros n) ≡ n
+unfolding zeros
+length-zeros n = length-replicate n 0
+
+symbols-zeros : (d n : ℕ) → All (IsSymbol d) (zeros n)
+unfolding zeros
+symbols-zeros d zero = tt
+symbols-zeros d (suc n) = (pow-pos d, symbols-zeros d n)
+
+front : (n : ℕ) (l : List ℕ) → length l ≤ n → take (length l) (lay 0 l (zeros n)) ≡ l
+front n l h = front-of (length l) l (zeros n) refl refl (omega (arith, length-zeros n))
+
+spare-behind : (n : ℕ) (l : List ℕ) → Spare (length l) (lay 0 l (zeros n))
+spare-behind n l i h = lay-above 0 l (zeros n) i (omega arith) ∙ zeros-zero n i
+
+pub code-zero : (c : Code) → Passed c → codeOf (zeroDesk c) ≡ c
+code-zero c p = ap₂ (mark.codeOf (c .degree)) (front 16 (c .points) (p .most-columns)) (front 4 (c .lengths) (p .most-rows))
+
+sound-zero : (c : Code) → Passed c → Sound (zeroDesk c)
+sound-zero c p =
+    let same = code-zero c p in
+    let n : columns (codeOf (zeroDesk c)) ≡ columns c = ap columns same in
+    let r : rows (codeOf (zeroDesk c)) ≡ rows c = ap rows same in
+    let cells : rows c * columns c ≤ 64 = mul-le-mul (p .most-rows) (p .most-columns) in
+    let symbols = symbols-zeros (c .degree) 64 in
+    record {
+      degree = p .degree;
+      some-rows = p .some-rows;
+      most-rows = p .most-rows;
+      some-columns = p .some-columns;
+      most-columns = p .most-columns;
+      cells = cells;
+      points = length-lay 0 (c .points) (zeros 16) ∙ length-zeros 16;
+      lengths = length-lay 0 (c .lengths) (zeros 4) ∙ length-zeros 4;
+      places = length-zeros 64;
+      columns = n;
+      rows = r;
+      proper = subst Proper (sym same) (p .proper);
+      symbols = symbols;
+      array = is-array (zeroDesk c) n r cells (length-zeros 64) symbols;
+      spare-points = spare-behind 16 (c .points);
+      spare-lengths = spare-behind 4 (c .lengths);
+      spare-places = λ i h. zeros-zero 64 i;
+    }
+
+-- the desk that a refused opening hands over could itself be opened
+spare-passed : Passed spareCode
+unfolding first badDegree outside someOutside outsideField someOutsideField isIn repeated badPoints
+spare-passed = passed spareCode refl
+
+-- ---- putting
+
+pub record Puttable (d : Desk) (i : ℕ) (s : List ℕ) : Type 0 where
+  pub column : i < d .columns
+  pub count : length s ≡ d .rows
+  pub symbols : All (IsSymbol (d .degree)) s
+
+pub puttable : (d : Desk) (i : ℕ) (s : List ℕ) → 0 ≡ first (putChecks d i s) → Puttable d i s
+puttable d i s e =
+    let p₁ = clear 13 _ _ e in
+    let p₂ = clear 4 _ _ (p₁ .1) in
+    let p₃ = clear 6 _ _ (p₂ .1) in
+    record {
+      column = leb-false (d .columns) i (p₁ .0);
+      count = eqb-true (length s) (d .rows) (not-false _ (p₂ .0));
+      symbols = symbols-test (d .degree) s .0 (p₃ .0);
+    }
+
+sound-placed : (d : Desk) (i : ℕ) (s : List ℕ) → Sound d → Puttable d i s → Sound (placed d i s)
+sound-placed d i s h p =
+    let places : length (placed d i s .array) ≡ 64 = length-column (d .columns) i s (d .array) ∙ h .places in
+    let symbols = all-column (d .columns) (IsSymbol (d .degree)) i s (d .array) (p .symbols) (h .symbols) in
+    record {
+      degree = h .degree;
+      some-rows = h .some-rows;
+      most-rows = h .most-rows;
+      some-columns = h .some-columns;
+      most-columns = h .most-columns;
+      cells = h .cells;
+      points = h .points;
+      lengths = h .lengths;
+      places = places;
+      columns = h .columns;
+      rows = h .rows;
+      proper = h .proper;
+      symbols = symbols;
+      array = is-array (placed d i s) (h .columns) (h .rows) (h .cells) places symbols;
+      spare-points = h .spare-points;
+      spare-lengths = h .spare-lengths;
+      spare-places = λ j g. column-other (d .columns) i s (d .array) j (λ l q e. omega (arith, cell (d .rows) (d .columns) l i (omega (arith, p .count)) (p .column))) ∙ h .spare-places j g;
+    }
+
+pub sound : {d : Desk} → Made d → Sound d
+sound (opened c) = go (first (openChecks c)) refl
+  where
+    go : (k : ℕ) → k ≡ first (openChecks c) → Sound (deskBy k (zeroDesk c) (zeroDesk spareCode))
+    go zero e = sound-zero c (passed c e)
+    go (suc k) e = sound-zero spareCode spare-passed
+sound (put d i s m) = go (sound m) (first (putChecks d i s)) refl
+  where
+    go : Sound d → (k : ℕ) → k ≡ first (putChecks d i s) → Sound (deskBy k (placed d i s) d)
+    go h zero e = sound-placed d i s h (puttable d i s e)
+    go h (suc k) e = h

@@ -1,0 +1,28 @@
+-- The verdict: 01, 'The desk', 'The verdict is the number of rows that are not values of a polynomial with at most k_l
+-- coefficients.'
+--
+--   IsRow d xs k ys       the row ys is the values at the points xs of a polynomial with at most k coefficients
+--   Misfits d xs ks a v   v of the rows of a, one for each length of ks, are not
+--   Verdict d v           v is the verdict on the desk d
+use mathlib.Core.Path.{_≡_}
+use mathlib.Core.List.{List, [], _∷_}
+use Prim.Native.Nat.{ℕ, suc}
+use lib.ListN.{length, take, drop}
+use Rattle.field.specs.Arithmetic.{gf}
+use Rattle.poly.specs.Poly.{Poly, valuesAt}
+use Rattle.desk.specs.Desk.{codeOf, arrayOf}
+use Rattle.desk.specs.declared.Desk.{Desk}
+
+abbrev pub IsRow : ℕ → List ℕ → ℕ → List ℕ → Type 0
+IsRow d xs k ys = (f : List ℕ) × Poly (gf d) k f × (valuesAt (gf d) xs f ≡ ys)
+
+-- row after row: a row that fits, and one that does not
+pub data Misfits (d : ℕ) (xs : List ℕ) : List ℕ → List ℕ → ℕ → Type 0 where
+  none : {a : List ℕ} → Misfits d xs [] a 0
+  fits : {k : ℕ} {ks a : List ℕ} {v : ℕ} → IsRow d xs k (take (length xs) a) → Misfits d xs ks (drop (length xs) a) v
+      → Misfits d xs (k ∷ ks) a v
+  fits-not : {k : ℕ} {ks a : List ℕ} {v : ℕ} → (IsRow d xs k (take (length xs) a) → ⊥) → Misfits d xs ks (drop (length xs) a) v
+      → Misfits d xs (k ∷ ks) a (suc v)
+
+abbrev pub Verdict : Desk → ℕ → Type 0
+Verdict d v = Misfits (codeOf d .degree) (codeOf d .points) (codeOf d .lengths) (arrayOf d) v

@@ -1,0 +1,44 @@
+// The checks of the desk's calls, in order.
+ghost use mathlib.Core.Path.{_≡_};
+ghost use Rattle.refusal.specs.Refusal.{first};
+ghost use Rattle.mark.specs.Code.{codeOf};
+ghost use Rattle.desk.specs.Desk.{openChecks, putChecks};
+use crate::Desk;
+
+// The first check of opening that applies, 0 where none does.
+pub fn open_refusal(degree: u32, points: &[u8], lengths: &[u8]) -> u8
+    ensures { λ r. ⌜ r ≡ first (openChecks (codeOf degree (now (points .entry)) (now (lengths .entry)))) ⌝ }
+{
+    if refusal::bad_degree(degree) {
+        return 1;
+    }
+    if refusal::outside(1, 4, lengths.len()) {
+        return 2;
+    }
+    if refusal::outside(1, 16, points.len()) {
+        return 3;
+    }
+    if refusal::some_outside(1, points.len(), lengths) {
+        return 4;
+    }
+    if refusal::bad_points(degree, points) {
+        return 6;
+    }
+    0
+}
+
+// The first check of putting a column that applies, 0 where none does.
+pub fn put_refusal(desk: Desk, column: usize, symbols: &[u8]) -> u8
+    ensures { λ r. ⌜ r ≡ first (putChecks desk column (now (symbols .entry))) ⌝ }
+{
+    if desk.columns <= column {
+        return 14;
+    }
+    if symbols.len() != desk.rows {
+        return 5;
+    }
+    if refusal::some_outside_field(desk.degree, symbols) {
+        return 7;
+    }
+    0
+}

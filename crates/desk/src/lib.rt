@@ -1,0 +1,139 @@
+// The desk: a mark is put together on it, column by column, and each row is held to its length.
+mod checks;
+mod fit;
+
+ghost use mathlib.Core.Path.{_≡_};
+ghost use Prim.Native.Nat.{_*_, _≤_, _<_};
+ghost use lib.ListN.{length, take};
+ghost use Rattle.mark.specs.Code.{codeOf};
+ghost use Rattle.desk.specs.Desk.{Made, opening, placed, putting, zeroDesk};
+ghost use Rattle.desk.specs.Verdict.{Verdict};
+use field::tables;
+use mark::Outcome;
+
+// A code and an array of it, row after row. Places of the points, the lengths and the array that the code does not use are zero.
+pub struct Desk {
+    pub degree: u32,
+    pub columns: usize,
+    pub rows: usize,
+    pub points: [u8; 16],
+    pub lengths: [u8; 4],
+    pub array: [u8; 64],
+}
+
+// What opening hands over.
+pub struct Opened {
+    pub outcome: Outcome,
+    pub desk: Desk,
+}
+
+// What putting a column hands back.
+pub struct Put {
+    pub outcome: Outcome,
+    pub desk: Desk,
+}
+
+impl Desk {
+    // The desk of a code with an array of zeros.
+    fn zero(degree: u32, points: &[u8], lengths: &[u8]) -> Self
+        requires { ⌜ length (now points) ≤ 16 ⌝ }
+        requires { ⌜ length (now lengths) ≤ 4 ⌝ }
+        ensures { λ r. ⌜ r ≡ zeroDesk (codeOf degree (now (points .entry)) (now (lengths .entry))) ⌝ }
+    {
+        let mut xs = [0u8; 16];
+        rows::store(points, &mut xs, 0);
+        let mut ks = [0u8; 4];
+        rows::store(lengths, &mut ks, 0);
+        let array = [0u8; 64];
+        Desk {
+            degree: degree,
+            columns: points.len(),
+            rows: lengths.len(),
+            points: xs,
+            lengths: ks,
+            array: array,
+        }
+    }
+
+    // Opens a desk; refusals 1, 2, 3, 4, 6. A refused opening hands over the zero desk of GF(4) with points 0 1 and k 1.
+    pub fn open(degree: u32, points: &[u8], lengths: &[u8]) -> Opened
+        ensures { λ r. ⌜ r ≡ opening (codeOf degree (now (points .entry)) (now (lengths .entry))) ⌝ }
+        ensures { λ r. ⌜ Made (r .desk) ⌝ }
+    {
+        let k = checks::open_refusal(degree, points, lengths);
+        if k != 0 {
+            let xs = [0u8, 1u8];
+            let ks = [1u8];
+            let refused = Outcome::Refused(k);
+            let spare = Desk::zero(2, &xs, &ks);
+            return Opened {
+                outcome: refused,
+                desk: spare,
+            };
+        }
+        let done = Outcome::Done;
+        let desk = Desk::zero(degree, points, lengths);
+        Opened {
+            outcome: done,
+            desk: desk,
+        }
+    }
+
+    // The desk with the symbols, one a row, in a column.
+    fn place(mut self, column: usize, symbols: [u8; 4]) -> Self
+        requires { ⌜ (column < self .columns) × (self .rows ≤ 4) × (self .rows * self .columns ≤ 64) ⌝ }
+        ensures { λ r. ⌜ r ≡ placed self column (take (self .rows) symbols) ⌝ }
+    {
+        let n = self.columns;
+        let rows = self.rows;
+        let mut start = 0;
+        let mut l = 0;
+        while l < rows {
+            self.array[start + column] = symbols[l];
+            start += n;
+            l += 1;
+        }
+        self
+    }
+
+    // Puts the symbols, one a row, into a column, and changes nothing else; refusals 14, 5, 7. A refused put hands the desk
+    // back as it was.
+    pub fn put(mut self, column: usize, symbols: &[u8]) -> Put
+        requires { ⌜ Made self ⌝ }
+        ensures { λ r. ⌜ r ≡ putting self column (now (symbols .entry)) ⌝ }
+        ensures { λ r. ⌜ Made (r .desk) ⌝ }
+    {
+        let k = checks::put_refusal(self, column, symbols);
+        if k != 0 {
+            let refused = Outcome::Refused(k);
+            return Put {
+                outcome: refused,
+                desk: self,
+            };
+        }
+        let mut four = [0u8; 4];
+        rows::store(symbols, &mut four, 0);
+        let done = Outcome::Done;
+        self = self.place(column, four);
+        Put {
+            outcome: done,
+            desk: self,
+        }
+    }
+
+    // The number of rows that are not values of a polynomial with at most as many coefficients as the row's length.
+    pub fn verdict(self) -> usize
+        requires { ⌜ Made self ⌝ }
+        ensures { λ r. ⌜ Verdict self r ⌝ }
+    {
+        let degree = self.degree;
+        let n = self.columns;
+        let r = self.rows;
+        let points = self.points;
+        let lengths = self.lengths;
+        let array = self.array;
+        let cells = r * n;
+        let table = tables::lend(degree);
+        fit::misfits(&table, degree, &points[..n], &lengths[..r], &array[..cells])
+    }
+}

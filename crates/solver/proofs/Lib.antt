@@ -1,0 +1,16 @@
+pub mod Scanned
+pub mod Slots
+pub mod Mixing
+pub mod Raising
+pub mod Live
+pub mod Kept
+pub mod Raised
+pub mod Lowest
+pub mod Pivoted
+pub mod Stepped
+pub mod Ran
+pub mod Marked
+pub mod Started
+pub mod Starting
+pub mod Solved
+pub mod Reading

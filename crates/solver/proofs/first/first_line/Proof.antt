@@ -1,0 +1,25 @@
+-- `solver::first::first_line` clears the first line, stores the values and writes the locator 1.
+-- Assumes nothing.
+use Rattle.solver.proofs.Starting.{first-only}
+use borrow.Author.Needs.{needs}
+use Rattle.solver.proofs.first.first_line.Statement.{statement}
+use Rattle.solver.proofs.first.first_line.Tie as tie
+
+clear-requires : tie.Need-clear-requires
+clear-requires c κs = search needs
+
+store-requires : tie.Need-store-requires
+store-requires c κs = search needs
+
+ones-requires : tie.Need-ones-requires
+ones-requires c κs = search needs
+
+same-length : tie.Need-same-length
+same-length c = search needs
+
+returns : tie.Need-returns
+returns c = let pre = c .before .before .before .before .before .before .before .before .before .before .before .before .before .before .pre in first-only _ _ (pre .0) (pre .1) (c .before .before .before .before .before .before .before .before .before .before .clear .ensures) (c .before .before .before .before .before .before .store .ensures) (c .before .before .ones .ensures)
+
+pub first-line-spec : {M : Type 1} → statement M
+first-line-spec =
+    tie.close (tie.spec clear-requires store-requires ones-requires same-length returns)

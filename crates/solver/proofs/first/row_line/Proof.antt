@@ -1,0 +1,32 @@
+-- `solver::first::row_line` clears the line, and writes ones at the conditions of its row.
+-- Assumes nothing.
+use Rattle.solver.proofs.Starting.{row-only}
+use borrow.Author.Needs.{needs}
+use Rattle.solver.proofs.first.row_line.Statement.{statement}
+use Rattle.solver.proofs.first.row_line.Tie as tie
+
+mul-clear : tie.Need-mul-clear
+mul-clear c = search needs
+
+clear-requires : tie.Need-clear-requires
+clear-requires c κs = search needs
+
+mul-ones : tie.Need-mul-ones
+mul-ones c = search needs
+
+add-ones : tie.Need-add-ones
+add-ones c = search needs
+
+ones-requires : tie.Need-ones-requires
+ones-requires c κs = search needs
+
+same-length : tie.Need-same-length
+same-length c = search needs
+
+returns : tie.Need-returns
+returns c = let pre = c .before .before .before .before .before .before .before .before .before .pre in row-only _ _ (pre .1) _ _ (pre .0) (c .before .before .before .before .before .before .clear .ensures) (c .before .before .ones .ensures)
+
+pub row-line-spec : {M : Type 1} → statement M
+row-line-spec =
+    tie.close
+    (tie.spec mul-clear clear-requires mul-ones add-ones ones-requires same-length returns)

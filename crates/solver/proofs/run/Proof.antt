@@ -1,0 +1,56 @@
+-- `solver::run` takes the steps, one after the other.
+-- Assumes nothing.
+use mathlib.Core.Path.{_≡_, _∙_}
+use Prim.Native.Nat.{_-_, _≤_}
+use native.Mathlib.Omega.{arith}
+use lib.ListN.{length}
+use Rattle.solver.proofs.Ran.{Left, left-all, left-turn, left-none}
+use borrow.Author.Needs.{needs}
+use Rattle.solver.proofs.run.Statement.{statement}
+use Rattle.solver.proofs.run.Tie as tie
+
+abbrev Inv-loop : tie.InvT-loop
+Inv-loop table degree points lines leads₀ space₀ i₀ leads space i = (i ≤ length points) × (length space ≡ length space₀) × Left degree points lines leads₀ space₀ i leads space
+
+abbrev μ-loop : tie.MeasureT-loop
+μ-loop table degree points lines leads₀ space₀ i₀ leads space i = length points - i
+
+loop-holds : tie.Need-loop-holds Inv-loop μ-loop
+loop-holds c = (search needs, search needs, left-all _ _ _ _ _)
+
+step-requires : tie.Need-step-requires Inv-loop μ-loop
+step-requires c κs = let pre = c .before .before .before .before .before .before .pre in
+    let loop = c .before .before .before .loop in
+    let (fs, held, same) = loop .inv .2 (pre .1 .1 .0) (pre .1 .1 .1) in
+    (pre .0, ((c .before .before .loop-test .taken, pre .1 .0 .0, pre .1 .0 .1, pre .1 .0 .2, omega (arith, pre .1 .0, loop .inv .1)), (fs, held)))
+
+add-i : tie.Need-add-i Inv-loop μ-loop
+add-i c = search needs
+
+loop-less : tie.Need-loop-less Inv-loop μ-loop
+loop-less c = search needs
+
+loop-again : tie.Need-loop-again Inv-loop μ-loop
+loop-again c = let loop = c .before .before .before .before .before .before .loop in
+    let below = c .before .before .before .before .before .loop-test .taken in
+    (omega (arith, below), c .before .before .step .kept .1 .1 .1 .1 .1 .1 .0 ∙ loop .inv .1, left-turn _ _ _ _ _ _ _ _ _ _ below (loop .inv .2) (c .before .before .step .ensures))
+
+same-length : tie.Need-same-length Inv-loop μ-loop
+same-length c = search needs
+
+returns : tie.Need-returns Inv-loop μ-loop
+returns c = left-none _ _ _ _ _ _ _ _ (omega arith) (c .before .loop .inv .2)
+
+pub run-spec : {M : Type 1} → statement M
+run-spec =
+    tie.close
+    (tie.spec
+    Inv-loop
+    μ-loop
+    loop-holds
+    step-requires
+    add-i
+    loop-less
+    loop-again
+    same-length
+    returns)

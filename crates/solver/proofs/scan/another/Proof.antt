@@ -1,0 +1,67 @@
+-- `solver::scan::another` scans lines of which those with another lead are marked.
+-- Assumes nothing.
+use Rattle.solver.specs.Scan.{Marks}
+use mathlib.Core.List.{List, [], _∷_}
+use Prim.Native.Nat.{ℕ, _<_}
+use native.Mathlib.Omega.{arith}
+use lib.ListN.{getD}
+use Rattle.solver.proofs.Lowest.{another-scan, five}
+use borrow.Author.Needs.{needs}
+use Rattle.solver.proofs.scan.another.Statement.{statement}
+use Rattle.solver.proofs.scan.another.Tie as tie
+
+element-copy-out-other : tie.Need-element-copy-out-other
+element-copy-out-other c = search needs
+
+other-requires : tie.Need-other-requires
+other-requires c κs = search needs
+
+element-copy-out-other-2 : tie.Need-element-copy-out-other-2
+element-copy-out-other-2 c = search needs
+
+other-requires-2 : tie.Need-other-requires-2
+other-requires-2 c κs = search needs
+
+element-copy-out-other-3 : tie.Need-element-copy-out-other-3
+element-copy-out-other-3 c = search needs
+
+other-requires-3 : tie.Need-other-requires-3
+other-requires-3 c κs = search needs
+
+element-copy-out-other-4 : tie.Need-element-copy-out-other-4
+element-copy-out-other-4 c = search needs
+
+other-requires-4 : tie.Need-other-requires-4
+other-requires-4 c κs = search needs
+
+element-copy-out-other-5 : tie.Need-element-copy-out-other-5
+element-copy-out-other-5 c = search needs
+
+other-requires-5 : tie.Need-other-requires-5
+other-requires-5 c κs = search needs
+
+pivot-requires : tie.Need-pivot-requires
+pivot-requires c κs = search needs
+
+returns : tie.Need-returns
+returns c = let start = c .before .before .before .before .before .before .before .before .before .before .before .before in
+    let marks : List ℕ = c .before .before .before .before .before .before .before .before .before .before .other .result ∷ c .before .before .before .before .before .before .before .before .other2 .result ∷ c .before .before .before .before .before .before .other3 .result ∷ c .before .before .before .before .other4 .result ∷ c .before .before .other5 .result ∷ [] in
+    let marked : (j : ℕ) → j < 5 → Marks (getD (start .args .leads .now) j 0) (start .args .m) (getD marks j 0) = five _ (c .before .before .before .before .before .before .before .before .before .before .other .ensures) (c .before .before .before .before .before .before .before .before .other2 .ensures) (c .before .before .before .before .before .before .other3 .ensures) (c .before .before .before .before .other4 .ensures) (c .before .before .other5 .ensures) in
+    (c .pivot .ensures .0, λ es size led. another-scan marks _ _ _ (c .pivot .ensures .1) es size led (start .args .m) (λ j lt. marked j (omega (arith, start .pre))))
+
+pub another-spec : {M : Type 1} → statement M
+another-spec =
+    tie.close
+    (tie.spec
+    element-copy-out-other
+    other-requires
+    element-copy-out-other-2
+    other-requires-2
+    element-copy-out-other-3
+    other-requires-3
+    element-copy-out-other-4
+    other-requires-4
+    element-copy-out-other-5
+    other-requires-5
+    pivot-requires
+    returns)

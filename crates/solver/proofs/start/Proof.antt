@@ -1,0 +1,21 @@
+-- `solver::start` writes the first line, the lines of the rows and the leads.
+-- Assumes nothing.
+use Rattle.solver.proofs.Started.{starts}
+use borrow.Author.Needs.{needs}
+use Rattle.solver.proofs.start.Statement.{statement}
+use Rattle.solver.proofs.start.Tie as tie
+
+first-line-requires : tie.Need-first-line-requires
+first-line-requires c κs = search needs
+
+row-lines-requires : tie.Need-row-lines-requires
+row-lines-requires c κs = search needs
+
+same-length : tie.Need-same-length
+same-length c = search needs
+
+returns : tie.Need-returns
+returns c = let pre = c .before .before .before .before .before .before .before .before .before .before .before .before .pre in starts _ _ _ _ _ (pre .0 .0) (pre .0 .1) (pre .1) (c .before .before .before .before .before .before .before .first-line .ensures) (c .before .before .before .row-lines .ensures)
+
+pub start-spec : {M : Type 1} → statement M
+start-spec = tie.close (tie.spec first-line-requires row-lines-requires same-length returns)

@@ -1,0 +1,94 @@
+// The solver on a table of lines in lent memory. A line takes 768 slots: its values at the conditions, then its locator.
+mod first;
+pub mod scan;
+mod turns;
+
+ghost use mathlib.Core.Path.{_≡_};
+ghost use mathlib.Core.Bool.{false};
+ghost use Prim.Native.Nat.{_+_, _*_, _≤_, _<_};
+ghost use lib.ListN.{length};
+ghost use Rattle.refusal.specs.Refusal.{badDegree};
+ghost use Rattle.field.specs.Symbols.{IsSymbol};
+ghost use Rattle.field.specs.Tables.{IsTable};
+ghost use Rattle.poly.specs.Poly.{All};
+ghost use Rattle.solver.specs.Start.{total, Starts};
+ghost use Rattle.solver.specs.Solver.{HoldsSome, Steps, Runs, SomeRows, Solves};
+use field::tables::LENT;
+
+// For the crates above: the lines before the first condition, of rows with these numbers of conditions, the values at which are us,
+// one row after another.
+pub fn start(us: &[u8], counts: &[usize], leads: &mut [usize; 5], space: &mut [u8])
+    requires { ⌜ (length (now us) ≤ 380) × (length (now counts) ≤ 4) × (total (now counts) ≡ length (now us)) ⌝ }
+    requires { ⌜ 768 * (length (now counts) + 1) ≤ length (now space) ⌝ }
+    ensures { λ _. ⌜ Starts (now (us .entry)) (now (counts .entry)) (now (leads .exit)) (now (space .exit)) ⌝ }
+{
+    first::first_line(us, space);
+    first::row_lines(counts, space);
+    *leads = [0, 1, 2, 3, 4];
+}
+
+// Takes the lines over condition i: none changes if all have the value zero there; else the pivot is mixed into the others and raised.
+fn step(
+    table: &[u8; LENT],
+    degree: u32,
+    points: &[u8],
+    i: usize,
+    lines: usize,
+    leads: &mut [usize; 5],
+    space: &mut [u8],
+)
+    requires { ⌜ (badDegree degree ≡ false) × IsTable degree (now table) × All (IsSymbol degree) (now points) ⌝ }
+    requires { ⌜ (i < length (now points)) × (length (now points) ≤ 380) × (0 < lines) × (lines ≤ 5) × (768 * lines ≤ length (now space)) ⌝ }
+    requires { ⌜ HoldsSome degree (length (now points)) lines i (now leads) (now space) ⌝ }
+    ensures { λ _. ⌜ Steps degree (now (points .entry)) lines i (now (leads .entry)) (now (space .entry)) (now (leads .exit)) (now (space .exit)) ⌝ }
+{
+    let mut ds = [0u8; 5];
+    turns::heads(space, i, lines, &mut ds);
+    let p = scan::pivot(&ds, leads, lines);
+    if p < lines {
+        let width = leads[p] / lines + 1;
+        turns::turn(table, degree, points, i, lines, &ds, p, width, space);
+        leads[p] += lines;
+    }
+}
+
+// For the crates above: takes the lines over all conditions, one after the other.
+pub fn run(
+    table: &[u8; LENT],
+    degree: u32,
+    points: &[u8],
+    lines: usize,
+    leads: &mut [usize; 5],
+    space: &mut [u8],
+)
+    requires { ⌜ (badDegree degree ≡ false) × IsTable degree (now table) × All (IsSymbol degree) (now points) ⌝ }
+    requires { ⌜ (length (now points) ≤ 380) × (0 < lines) × (lines ≤ 5) × (768 * lines ≤ length (now space)) ⌝ }
+    requires { ⌜ HoldsSome degree (length (now points)) lines 0 (now leads) (now space) ⌝ }
+    ensures { λ _. ⌜ Runs degree (now (points .entry)) lines (now (leads .entry)) (now (space .entry)) (now (leads .exit)) (now (space .exit)) ⌝ }
+{
+    let mut i = 0;
+    while i < points.len() {
+        step(table, degree, points, i, lines, leads, space);
+        i += 1;
+    }
+}
+
+// For the crates above: the solver's lines, for rows with these numbers of conditions, their points and the values us at them, one
+// row after another.
+pub fn solve(
+    table: &[u8; LENT],
+    degree: u32,
+    counts: &[usize],
+    points: &[u8],
+    us: &[u8],
+    leads: &mut [usize; 5],
+    space: &mut [u8],
+)
+    requires { ⌜ (badDegree degree ≡ false) × IsTable degree (now table) × All (IsSymbol degree) (now points) × All (IsSymbol degree) (now us) ⌝ }
+    requires { ⌜ (length (now us) ≤ 380) × (length (now counts) ≤ 4) × (768 * (length (now counts) + 1) ≤ length (now space)) ⌝ }
+    requires { ⌜ SomeRows (now counts) (now points) (now us) ⌝ }
+    ensures { λ _. ⌜ Solves degree (now (counts .entry)) (now (points .entry)) (now (us .entry)) (now (leads .exit)) (now (space .exit)) ⌝ }
+{
+    start(us, counts, leads, space);
+    run(table, degree, points, counts.len() + 1, leads, space);
+}

@@ -1,0 +1,350 @@
+/* Makes the stored input and output of the program `desk_runs`: marks put together on a desk in several orders, damaged and
+ * mended columns, refused puts and refused openings. The desk is written from 01's definitions: a row fits where the polynomial
+ * through its first k symbols (Lagrange) has its other symbols as values. Products by shift and exclusive or, quotients by search:
+ * no table, and nothing of the proved code.
+ *
+ *   desk in FILE    writes the input
+ *   desk out FILE   writes the answers
+ */
+#include <stdio.h>
+#include <string.h>
+
+enum { FRAME = 32, POINTS = 20, LENGTHS = 7 };
+
+/* ---- the fields */
+
+static unsigned modulus(unsigned degree)
+{
+    return degree == 2 ? 0x7 : degree == 4 ? 0x13 : 0x11D;
+}
+
+static unsigned product(unsigned degree, unsigned a, unsigned b)
+{
+    unsigned whole = 0;
+    for (unsigned i = 0; i < degree; i++)
+        if (b >> i & 1)
+            whole ^= a << i;
+    for (unsigned i = 2 * degree; i >= degree; i--)
+        if (whole >> i & 1)
+            whole ^= modulus(degree) << (i - degree);
+    return whole;
+}
+
+static unsigned quotient(unsigned degree, unsigned a, unsigned b)
+{
+    for (unsigned c = 0; c < 1u << degree; c++)
+        if (product(degree, c, b) == a)
+            return c;
+    return 0;
+}
+
+/* ---- the desk */
+
+struct desk {
+    unsigned degree, n, r;
+    unsigned x[16], k[4];
+    unsigned symbol[4][16];
+};
+
+/* the value at y of the polynomial of at most k coefficients that has the row's first k symbols at its first k points */
+static unsigned through(const struct desk *d, unsigned row, unsigned y)
+{
+    unsigned sum = 0;
+    for (unsigned i = 0; i < d->k[row]; i++) {
+        unsigned above = d->symbol[row][i], below = 1;
+        for (unsigned j = 0; j < d->k[row]; j++)
+            if (j != i) {
+                above = product(d->degree, above, y ^ d->x[j]);
+                below = product(d->degree, below, d->x[i] ^ d->x[j]);
+            }
+        sum ^= quotient(d->degree, above, below);
+    }
+    return sum;
+}
+
+static unsigned verdict(const struct desk *d)
+{
+    unsigned bad = 0;
+    for (unsigned row = 0; row < d->r; row++)
+        for (unsigned i = d->k[row]; i < d->n; i++)
+            if (through(d, row, d->x[i]) != d->symbol[row][i]) {
+                bad++;
+                break;
+            }
+    return bad;
+}
+
+static void zero_desk(struct desk *d, unsigned degree, unsigned n, const unsigned *x, unsigned r, const unsigned *k)
+{
+    memset(d, 0, sizeof *d);
+    d->degree = degree;
+    d->n = n;
+    d->r = r;
+    memcpy(d->x, x, n * sizeof *x);
+    memcpy(d->k, k, r * sizeof *k);
+}
+
+static unsigned open_refusal(unsigned degree, unsigned n, const unsigned *x, unsigned r, const unsigned *k)
+{
+    if (degree != 2 && degree != 4 && degree != 8)
+        return 1;
+    if (r < 1 || r > 4)
+        return 2;
+    if (n < 1 || n > 16)
+        return 3;
+    for (unsigned l = 0; l < r; l++)
+        if (k[l] < 1 || k[l] > n)
+            return 4;
+    for (unsigned i = 0; i < n; i++) {
+        if (x[i] >> degree)
+            return 6;
+        for (unsigned j = 0; j < i; j++)
+            if (x[j] == x[i])
+                return 6;
+    }
+    return 0;
+}
+
+static unsigned open_desk(struct desk *d, unsigned degree, unsigned n, const unsigned *x, unsigned r, const unsigned *k)
+{
+    static const unsigned spare_x[] = {0, 1}, spare_k[] = {1};
+    unsigned refused = open_refusal(degree, n, x, r, k);
+    if (refused)
+        zero_desk(d, 2, 2, spare_x, 1, spare_k);
+    else
+        zero_desk(d, degree, n, x, r, k);
+    return refused;
+}
+
+static unsigned put_column(struct desk *d, unsigned column, unsigned count, const unsigned *s)
+{
+    if (column >= d->n)
+        return 14;
+    if (count != d->r)
+        return 5;
+    for (unsigned l = 0; l < count; l++)
+        if (s[l] >> d->degree)
+            return 7;
+    for (unsigned l = 0; l < count; l++)
+        d->symbol[l][column] = s[l];
+    return 0;
+}
+
+/* ---- one call, as a frame or as a line */
+
+static FILE *to;
+static int wants_input;
+static struct desk now;
+
+static void frame(unsigned kind, unsigned number, unsigned n, const unsigned *x, unsigned r, const unsigned *k)
+{
+    unsigned char f[FRAME] = {0};
+    f[0] = (unsigned char)kind;
+    f[1] = (unsigned char)(number & 255);
+    f[2] = (unsigned char)(number >> 8);
+    f[3] = (unsigned char)n;
+    f[4] = (unsigned char)r;
+    for (unsigned i = 0; i < n; i++)
+        f[5 + i] = (unsigned char)x[i];
+    for (unsigned l = 0; l < r; l++)
+        f[5 + POINTS + l] = (unsigned char)k[l];
+    fwrite(f, 1, sizeof f, to);
+}
+
+static void line(unsigned refused)
+{
+    if (refused)
+        fprintf(to, "!%u %u\n", refused, verdict(&now));
+    else
+        fprintf(to, "done %u\n", verdict(&now));
+}
+
+static void opens(unsigned degree, unsigned n, const unsigned *x, unsigned r, const unsigned *k)
+{
+    unsigned refused = open_desk(&now, degree, n, x, r, k);
+    if (wants_input)
+        frame(0, degree, n, x, r, k);
+    else
+        line(refused);
+}
+
+static void puts_column(unsigned column, unsigned count, const unsigned *s)
+{
+    unsigned refused = put_column(&now, column, count, s);
+    if (wants_input)
+        frame(1, column, count, s, 0, 0);
+    else
+        line(refused);
+}
+
+/* ---- marks */
+
+static unsigned state = 2026;
+
+static unsigned any(unsigned below)
+{
+    state = state * 1103515245u + 12345u;
+    return (state >> 16) % below;
+}
+
+/* the columns of a random mark of the desk's code: column i, row l */
+static unsigned mark[16][4];
+
+static void strike(void)
+{
+    unsigned size = 1u << now.degree;
+    for (unsigned l = 0; l < now.r; l++) {
+        unsigned message[16];
+        for (unsigned i = 0; i < now.k[l]; i++)
+            message[i] = any(size);
+        for (unsigned i = 0; i < now.n; i++) {
+            mark[i][l] = 0;
+            for (unsigned j = now.k[l]; j-- > 0;)
+                mark[i][l] = product(now.degree, mark[i][l], now.x[i]) ^ message[j];
+        }
+    }
+}
+
+/* upwards, downwards, then in an order by chance */
+static void order(unsigned which, unsigned *o)
+{
+    for (unsigned i = 0; i < now.n; i++)
+        o[i] = which == 1 ? now.n - 1 - i : i;
+    if (which == 2)
+        for (unsigned i = now.n; i-- > 1;) {
+            unsigned j = any(i + 1), t = o[i];
+            o[i] = o[j];
+            o[j] = t;
+        }
+}
+
+/* a column with one row's symbol changed, and with all of them changed; then the right one again */
+static void damage(void)
+{
+    unsigned size = 1u << now.degree, i = any(now.n), s[4];
+    memcpy(s, mark[i], sizeof s);
+    s[any(now.r)] ^= 1 + any(size - 1);
+    puts_column(i, now.r, s);
+    for (unsigned l = 0; l < now.r; l++)
+        s[l] = mark[i][l] ^ (1 + any(size - 1));
+    puts_column(i, now.r, s);
+    puts_column(i, now.r, mark[i]);
+}
+
+static void refused_puts(void)
+{
+    unsigned s[POINTS] = {0}, bad[POINTS] = {0}, i = any(now.n);
+    for (unsigned l = 0; l < POINTS; l++) {
+        s[l] = any(1u << now.degree);
+        bad[l] = s[l];
+    }
+    bad[any(now.r)] = 1u << now.degree;
+    puts_column(now.n, now.r, s);
+    puts_column(now.n + 256 * (1 + any(200)), now.r, s);
+    puts_column(256 + i, now.r, s);
+    puts_column(now.n, now.r + 1, bad);
+    puts_column(i, 0, s);
+    puts_column(i, now.r - 1, s);
+    puts_column(i, now.r + 1, bad);
+    puts_column(i, POINTS, bad);
+    if (now.degree < 8)
+        puts_column(i, now.r, bad);
+}
+
+static void code(unsigned degree, unsigned n, unsigned r, const unsigned *k)
+{
+    unsigned size = 1u << degree, x[16], o[16];
+    for (unsigned i = 0; i < n;) {
+        unsigned j = 0;
+        x[i] = any(size);
+        while (j < i && x[j] != x[i])
+            j++;
+        if (j == i)
+            i++;
+    }
+    for (unsigned which = 0; which < 3; which++) {
+        opens(degree, n, x, r, k);
+        strike();
+        order(which, o);
+        for (unsigned i = 0; i < n; i++) {
+            if (i == n / 2)
+                refused_puts();
+            puts_column(o[i], r, mark[o[i]]);
+        }
+        damage();
+        puts_column(o[0], r, mark[o[n - 1]]);
+    }
+}
+
+/* what a refused opening hands over: the zero desk of GF(4) with points 0 1 and k 1 */
+static void spare(void)
+{
+    unsigned one[] = {1}, four[] = {4}, two[] = {1, 1};
+    puts_column(2, 1, one);
+    puts_column(0, 2, two);
+    puts_column(0, 1, four);
+    puts_column(0, 1, one);
+    puts_column(1, 1, one);
+}
+
+static void refused_openings(void)
+{
+    unsigned x[POINTS], k[LENGTHS], bad[LENGTHS] = {1, 1, 1, 0, 1, 1, 1}, long_k[LENGTHS] = {1, 4, 1, 1, 1, 1, 1};
+    unsigned twice[] = {3, 1, 3}, outside[] = {3, 16, 1};
+    for (unsigned i = 0; i < POINTS; i++)
+        x[i] = i;
+    for (unsigned l = 0; l < LENGTHS; l++)
+        k[l] = 1;
+    static const unsigned degrees[] = {0, 1, 3, 5, 7, 9, 16, 255, 258, 260, 264, 514};
+    for (unsigned i = 0; i < sizeof degrees / sizeof *degrees; i++)
+        opens(degrees[i], 3, x, 1, k);
+    spare();
+    opens(3, 0, x, 0, k);
+    opens(4, 3, x, 0, k);
+    opens(4, 3, x, 5, k);
+    opens(4, 0, x, 7, k);
+    spare();
+    opens(4, 0, x, 1, k);
+    opens(8, 17, x, 1, k);
+    opens(8, 20, x, 4, bad);
+    spare();
+    opens(4, 3, x, 4, bad);
+    opens(4, 3, x, 2, long_k);
+    opens(4, 4, x, 2, long_k);
+    opens(4, 3, twice, 2, long_k);
+    spare();
+    opens(4, 3, twice, 1, k);
+    opens(4, 3, outside, 1, k);
+    opens(8, 3, outside, 1, k);
+    opens(2, 5, x, 1, k);
+    spare();
+    opens(4, 16, x, 4, k);
+    opens(4, 17, x, 4, k);
+}
+
+int main(int argc, char **argv)
+{
+    if (argc != 3 || (strcmp(argv[1], "in") && strcmp(argv[1], "out"))) {
+        fprintf(stderr, "usage: desk in|out FILE\n");
+        return 2;
+    }
+    wants_input = !strcmp(argv[1], "in");
+    to = fopen(argv[2], "wb");
+    if (!to) {
+        perror(argv[2]);
+        return 1;
+    }
+    static const unsigned one[] = {1}, two[] = {1, 2}, four[] = {4, 1, 2, 3}, long_k[] = {15, 3, 8, 16}, last[] = {2, 4};
+    code(2, 4, 2, two);
+    code(2, 4, 4, four);
+    code(2, 1, 1, one);
+    code(4, 5, 2, two);
+    code(4, 9, 4, four);
+    code(4, 16, 4, long_k);
+    code(8, 4, 2, last);
+    code(8, 12, 4, four);
+    code(8, 16, 4, long_k);
+    code(8, 16, 1, one);
+    refused_openings();
+    return fclose(to) ? 1 : 0;
+}
