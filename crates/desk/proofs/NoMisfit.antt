@@ -5,7 +5,6 @@
 -- Assumes nothing.
 use mathlib.Core.Logic.{_↔_, Iff·trans, Iff·symm}
 use mathlib.Core.Path.{_≡_}
-use mathlib.Core.Bool.{false}
 use mathlib.Core.List.{List, [], _∷_}
 use Prim.Native.Nat.{ℕ, _*_}
 use lib.ListN.{length, take, drop}
@@ -13,14 +12,14 @@ use Rattle.field.specs.Symbols.{IsSymbol}
 use Rattle.field.specs.Arithmetic.{gf}
 use Rattle.poly.specs.Poly.{All}
 use Rattle.poly.proofs.OneOff.{row-exactly}
-use Rattle.mark.specs.Code.{Code, CodeArray, IsArray}
+use Rattle.mark.specs.Code.{Code, CodeArray}
 use Rattle.mark.proofs.Parts.{all-take, all-drop, row-length, rest-length}
 use Rattle.mark.proofs.Proper.{Within, Proper}
 use Rattle.mark.proofs.Messages.{ReducedRows, code-array-exactly}
 use Rattle.desk.specs.Desk.{codeOf, arrayOf, Made}
 use Rattle.desk.specs.Verdict.{IsRow, Misfits, none, fits, Verdict}
 use Rattle.desk.specs.declared.Desk.{Desk}
-use Rattle.desk.proofs.Sound.{Sound, sound}
+use Rattle.desk.proofs.Sound.{sound}
 
 first-row : {d k : ℕ} {xs ks a : List ℕ} {P Q : Type 0} → IsRow d xs k (take (length xs) a) ↔ P → Misfits d xs ks (drop (length xs) a) 0 ↔ Q
     → Misfits d xs (k ∷ ks) a 0 ↔ (P × Q)

@@ -1,6 +1,7 @@
--- The promises of opening and putting.
+-- The promises of the desk's calls.
 --
---   unique-opening, unique-putting    no two answers keep them
+--   unique-opening, unique-putting, unique-verdict    no two answers keep them
+--   refusal-number                    a refusal's outcome has its number
 --   opens, opens-not                  how opening keeps its promise: where no check applies, and with the first refusal's number
 --   puts, puts-not                    the same of putting
 --   made-open, made-put               the desk that is handed over came from opening and putting
@@ -10,17 +11,27 @@ use mathlib.Core.List.{List}
 use Prim.Native.Nat.{ℕ, zero, suc}
 use Rattle.refusal.specs.Refusal.{first}
 use Rattle.mark.specs.Code.{Code}
+use Rattle.mark.specs.Promises.{numberOf}
 use Rattle.mark.specs.declared.Outcome.the-variants.{Done, Refused}
-use Rattle.desk.specs.Desk.{zeroDesk, spareCode, openChecks, opening, placed, putChecks, putting, Made, opened, put}
+use Rattle.desk.specs.Desk.{zeroDesk, spareCode, outcomeOf, openChecks, opening, placed, putChecks, putting, Made, opened, put}
 use Rattle.desk.specs.declared.Desk.{Desk}
 use Rattle.desk.specs.declared.Opened.{Opened}
 use Rattle.desk.specs.declared.Put.{Put}
+use Rattle.desk.specs.Verdict.{Verdict}
+use Rattle.desk.proofs.Verdicts.{same-count}
 
 pub unique-opening : (c : Code) (r r′ : Opened) → r ≡ opening c → r′ ≡ opening c → r ≡ r′
 unique-opening c r r′ p q = p ∙ sym q
 
 pub unique-putting : (d : Desk) (i : ℕ) (s : List ℕ) (r r′ : Put) → r ≡ putting d i s → r′ ≡ putting d i s → r ≡ r′
 unique-putting d i s r r′ p q = p ∙ sym q
+
+pub unique-verdict : (d : Desk) (v v′ : ℕ) → Verdict d v → Verdict d v′ → v ≡ v′
+unique-verdict d v v′ p q = same-count p q
+
+pub refusal-number : (k : ℕ) → (k ≡ 0 → ⊥) → numberOf (outcomeOf k) ≡ k
+refusal-number zero n = absurd (n refl)
+refusal-number (suc k) n = refl
 
 module _ (c : Code) {desk : Desk} where
   pub opens : 0 ≡ first (openChecks c) → desk ≡ zeroDesk c → _≡_ {A = Opened} (record { outcome = Done; desk = desk }) (opening c)

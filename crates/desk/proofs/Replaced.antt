@@ -1,9 +1,10 @@
--- Putting a column 'replaces that column and nothing else', read off the array afterwards.
+-- Putting a column 'replaces that column and nothing else', read off the desk that is handed back.
 --
+--   code-kept      the code is as it was
 --   column-put     the column is the symbols that were put
 --   others-kept    the arrays before and after differ in no other column
 -- Assumes nothing.
-use mathlib.Core.Path.{_≡_, sym, _∙_}
+use mathlib.Core.Path.{_≡_, refl, sym, ap, _∙_}
 use mathlib.Core.Bool.{false}
 use mathlib.Core.List.{List}
 use Prim.Native.Nat.{ℕ, _+_, _*_, _<_}
@@ -13,36 +14,44 @@ use lib.Seq.{getD-take}
 use Rattle.refusal.specs.Refusal.{first}
 use Rattle.mark.specs.Code.{columns, rows, differsAt}
 use Rattle.mark.proofs.Columns.{agree-exactly, agree-at}
-use Rattle.desk.specs.Desk.{codeOf, arrayOf, placed, putChecks, Made}
+use Rattle.desk.specs.Desk.{codeOf, arrayOf, placed, putChecks, putting, Made}
 use Rattle.desk.specs.declared.Desk.{Desk}
 use Rattle.desk.proofs.Columns.{column-there, column-other, cell, one-cell}
-use Rattle.desk.proofs.Sound.{Puttable, puttable, Sound, sound}
+use Rattle.desk.proofs.Sound.{puttable, sound}
 
 module _ (d : Desk) (i : ℕ) (s : List ℕ) (m : Made d) (e : 0 ≡ first (putChecks d i s)) where
-  h : Sound d
-  h = sound m
+  abbrev after : Desk
+  after = putting d i s .desk
 
-  p : Puttable d i s
-  p = puttable d i s e
+  next : after ≡ placed d i s
+  next = rw (← e) refl
 
-  pub column-put : (l : ℕ) → l < d .rows → getD (arrayOf (placed d i s)) (l * d .columns + i) 0 ≡ getD s l 0
+  pub code-kept : codeOf after ≡ codeOf d
+  code-kept = ap codeOf next
+
+  pub column-put : (l : ℕ) → l < d .rows → getD (arrayOf after) (l * d .columns + i) 0 ≡ getD s l 0
   column-put l q =
-      getD-take (d .rows * d .columns) (placed d i s .array) (l * d .columns + i) 0 (cell (d .rows) (d .columns) l i q (p .column))
+      let h = sound m in
+      let can = puttable d i s e in
+      ap (λ (w : Desk). getD (arrayOf w) (l * d .columns + i) 0) next
+      ∙ getD-take (d .rows * d .columns) (placed d i s .array) (l * d .columns + i) 0 (cell (d .rows) (d .columns) l i q (can .column))
       ∙ column-there (d .columns) i s (d .array) (omega (arith, h .some-columns))
-      (λ k g. omega (arith, cell (d .rows) (d .columns) k i (omega (arith, p .count)) (p .column), h .cells, h .places))
+      (λ k g. omega (arith, cell (d .rows) (d .columns) k i (omega (arith, can .count)) (can .column), h .cells, h .array-size))
       l
-      (omega (arith, p .count))
+      (omega (arith, can .count))
 
   same : (j : ℕ) → j < d .columns → (j ≡ i → ⊥) → (l : ℕ) → l < d .rows
-      → getD (arrayOf d) (l * d .columns + j) 0 ≡ getD (arrayOf (placed d i s)) (l * d .columns + j) 0
+      → getD (arrayOf d) (l * d .columns + j) 0 ≡ getD (arrayOf after) (l * d .columns + j) 0
   same j b n l q =
       let inside = cell (d .rows) (d .columns) l j q b in
-      getD-take (d .rows * d .columns) (d .array) (l * d .columns + j) 0 inside
-      ∙ sym (column-other (d .columns) i s (d .array) (l * d .columns + j) (λ k g f. n (one-cell (d .columns) l k j i b (p .column) f)))
-      ∙ sym (getD-take (d .rows * d .columns) (placed d i s .array) (l * d .columns + j) 0 inside)
+      let there = l * d .columns + j in
+      getD-take (d .rows * d .columns) (d .array) there 0 inside
+      ∙ sym (column-other (d .columns) i s (d .array) there (λ k g f. n (one-cell (d .columns) l k j i b (puttable d i s e .column) f)))
+      ∙ sym (getD-take (d .rows * d .columns) (placed d i s .array) there 0 inside)
+      ∙ sym (ap (λ (w : Desk). getD (arrayOf w) there 0) next)
 
-  pub others-kept : (j : ℕ) → j < d .columns → (j ≡ i → ⊥) → differsAt (codeOf d) (arrayOf d) (arrayOf (placed d i s)) j ≡ false
+  pub others-kept : (j : ℕ) → j < d .columns → (j ≡ i → ⊥) → differsAt (codeOf d) (arrayOf d) (arrayOf after) j ≡ false
   others-kept j b n =
-      let after = arrayOf (placed d i s) in
-      agree-exactly (rows (codeOf d)) (columns (codeOf d)) j (arrayOf d) after .1
-      (agree-at (rows (codeOf d)) (columns (codeOf d)) j (arrayOf d) after .1 (rw (h .rows, h .columns) (same j b n)))
+      agree-exactly (rows (codeOf d)) (columns (codeOf d)) j (arrayOf d) (arrayOf after) .1
+      (agree-at (rows (codeOf d)) (columns (codeOf d)) j (arrayOf d) (arrayOf after) .1
+      (rw (sound m .row-count, sound m .column-count) (same j b n)))

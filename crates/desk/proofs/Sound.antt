@@ -1,6 +1,6 @@
 -- What holds of a desk that came from opening and putting.
 --
---   Spare n l        the places of l from n on are zero
+--   ZeroFrom n l     the places of l from n on are zero
 --   Sound d          the code of d is proper and within the limits of a desk, its array is one of the code, and its places that
 --                    the code does not use are zero
 --   Passed c         what the checks of opening leave; passed, from them
@@ -10,8 +10,8 @@
 -- Assumes nothing.
 use mathlib.Core.Path.{_≡_, refl, sym, ap, ap₂, _∙_, subst}
 use mathlib.Core.Bool.{false}
-use mathlib.Core.List.{List, [], _∷_}
-use Prim.Native.Nat.{ℕ, zero, suc, _*_, _^_, _≤_, _<_}
+use mathlib.Core.List.{List}
+use Prim.Native.Nat.{ℕ, zero, suc, _*_, _≤_, _<_}
 use native.Mathlib.Nat.{mul-le-mul}
 use native.Mathlib.Decide.{decLt}
 use native.Mathlib.Omega.{arith}
@@ -30,13 +30,13 @@ use Rattle.mark.specs.Code.{Code, columns, rows, IsArray}
 use Rattle.mark.specs.Code as mark
 use Rattle.mark.proofs.Parts.{all-take}
 use Rattle.mark.proofs.Proper.{Proper, proper, symbols-test}
-use Rattle.desk.specs.Desk.{codeOf, arrayOf, zeros, zeroDesk, spareCode, deskBy, openChecks, opening, placed, putChecks, putting, Made, opened, put}
+use Rattle.desk.specs.Desk.{codeOf, arrayOf, zeros, zeroDesk, spareCode, deskBy, openChecks, placed, putChecks, Made, opened, put}
 use Rattle.desk.specs.declared.Desk.{Desk}
 use Rattle.desk.proofs.Fronts.{front-of}
 use Rattle.desk.proofs.Columns.{length-column, all-column, column-other, cell}
 
-abbrev pub Spare : ℕ → List ℕ → Type 0
-Spare n l = (i : ℕ) → n ≤ i → getD l i 0 ≡ 0
+abbrev pub ZeroFrom : ℕ → List ℕ → Type 0
+ZeroFrom n l = (i : ℕ) → n ≤ i → getD l i 0 ≡ 0
 
 pub record Sound (d : Desk) : Type 0 where
   pub degree : badDegree (d .degree) ≡ false
@@ -45,21 +45,21 @@ pub record Sound (d : Desk) : Type 0 where
   pub some-columns : 1 ≤ d .columns
   pub most-columns : d .columns ≤ 16
   pub cells : d .rows * d .columns ≤ 64
-  pub points : length (d .points) ≡ 16
-  pub lengths : length (d .lengths) ≡ 4
-  pub places : length (d .array) ≡ 64
-  pub columns : columns (codeOf d) ≡ d .columns
-  pub rows : rows (codeOf d) ≡ d .rows
+  pub points-size : length (d .points) ≡ 16
+  pub lengths-size : length (d .lengths) ≡ 4
+  pub array-size : length (d .array) ≡ 64
+  pub column-count : columns (codeOf d) ≡ d .columns
+  pub row-count : rows (codeOf d) ≡ d .rows
   pub proper : Proper (codeOf d)
   pub symbols : All (IsSymbol (d .degree)) (d .array)
   pub array : IsArray (codeOf d) (arrayOf d)
-  pub spare-points : Spare (d .columns) (d .points)
-  pub spare-lengths : Spare (d .rows) (d .lengths)
-  pub spare-places : Spare (d .rows * d .columns) (d .array)
+  pub unused-points : ZeroFrom (d .columns) (d .points)
+  pub unused-lengths : ZeroFrom (d .rows) (d .lengths)
+  pub unused-places : ZeroFrom (d .rows * d .columns) (d .array)
 
 is-array : (d : Desk) → columns (codeOf d) ≡ d .columns → rows (codeOf d) ≡ d .rows → d .rows * d .columns ≤ 64
     → length (d .array) ≡ 64 → All (IsSymbol (d .degree)) (d .array) → IsArray (codeOf d) (arrayOf d)
-is-array d n r cells places s = record {
+is-array d n r cells size s = record {
   count = rw (n, r) (length-take-le (d .rows * d .columns) (d .array) (omega arith));
   symbols = all-take (IsSymbol (d .degree)) (d .rows * d .columns) (d .array) s;
 }
@@ -112,8 +112,8 @@ symbols-zeros d (suc n) = (pow-pos d, symbols-zeros d n)
 front : (n : ℕ) (l : List ℕ) → length l ≤ n → take (length l) (lay 0 l (zeros n)) ≡ l
 front n l h = front-of (length l) l (zeros n) refl refl (omega (arith, length-zeros n))
 
-spare-behind : (n : ℕ) (l : List ℕ) → Spare (length l) (lay 0 l (zeros n))
-spare-behind n l i h = lay-above 0 l (zeros n) i (omega arith) ∙ zeros-zero n i
+zero-behind : (n : ℕ) (l : List ℕ) → ZeroFrom (length l) (lay 0 l (zeros n))
+zero-behind n l i h = lay-above 0 l (zeros n) i (omega arith) ∙ zeros-zero n i
 
 pub code-zero : (c : Code) → Passed c → codeOf (zeroDesk c) ≡ c
 code-zero c p = ap₂ (mark.codeOf (c .degree)) (front 16 (c .points) (p .most-columns)) (front 4 (c .lengths) (p .most-rows))
@@ -132,17 +132,17 @@ sound-zero c p =
       some-columns = p .some-columns;
       most-columns = p .most-columns;
       cells = cells;
-      points = length-lay 0 (c .points) (zeros 16) ∙ length-zeros 16;
-      lengths = length-lay 0 (c .lengths) (zeros 4) ∙ length-zeros 4;
-      places = length-zeros 64;
-      columns = n;
-      rows = r;
+      points-size = length-lay 0 (c .points) (zeros 16) ∙ length-zeros 16;
+      lengths-size = length-lay 0 (c .lengths) (zeros 4) ∙ length-zeros 4;
+      array-size = length-zeros 64;
+      column-count = n;
+      row-count = r;
       proper = subst Proper (sym same) (p .proper);
       symbols = symbols;
       array = is-array (zeroDesk c) n r cells (length-zeros 64) symbols;
-      spare-points = spare-behind 16 (c .points);
-      spare-lengths = spare-behind 4 (c .lengths);
-      spare-places = λ i h. zeros-zero 64 i;
+      unused-points = zero-behind 16 (c .points);
+      unused-lengths = zero-behind 4 (c .lengths);
+      unused-places = λ i h. zeros-zero 64 i;
     }
 
 -- the desk that a refused opening hands over could itself be opened
@@ -170,7 +170,7 @@ puttable d i s e =
 
 sound-placed : (d : Desk) (i : ℕ) (s : List ℕ) → Sound d → Puttable d i s → Sound (placed d i s)
 sound-placed d i s h p =
-    let places : length (placed d i s .array) ≡ 64 = length-column (d .columns) i s (d .array) ∙ h .places in
+    let size : length (placed d i s .array) ≡ 64 = length-column (d .columns) i s (d .array) ∙ h .array-size in
     let symbols = all-column (d .columns) (IsSymbol (d .degree)) i s (d .array) (p .symbols) (h .symbols) in
     record {
       degree = h .degree;
@@ -179,17 +179,17 @@ sound-placed d i s h p =
       some-columns = h .some-columns;
       most-columns = h .most-columns;
       cells = h .cells;
-      points = h .points;
-      lengths = h .lengths;
-      places = places;
-      columns = h .columns;
-      rows = h .rows;
+      points-size = h .points-size;
+      lengths-size = h .lengths-size;
+      array-size = size;
+      column-count = h .column-count;
+      row-count = h .row-count;
       proper = h .proper;
       symbols = symbols;
-      array = is-array (placed d i s) (h .columns) (h .rows) (h .cells) places symbols;
-      spare-points = h .spare-points;
-      spare-lengths = h .spare-lengths;
-      spare-places = λ j g. column-other (d .columns) i s (d .array) j (λ l q e. omega (arith, cell (d .rows) (d .columns) l i (omega (arith, p .count)) (p .column))) ∙ h .spare-places j g;
+      array = is-array (placed d i s) (h .column-count) (h .row-count) (h .cells) size symbols;
+      unused-points = h .unused-points;
+      unused-lengths = h .unused-lengths;
+      unused-places = λ j g. column-other (d .columns) i s (d .array) j (λ l q e. omega (arith, cell (d .rows) (d .columns) l i (omega (arith, p .count)) (p .column))) ∙ h .unused-places j g;
     }
 
 pub sound : {d : Desk} → Made d → Sound d

@@ -1,22 +1,22 @@
--- The verdict: how the code comes to it, and what it is.
+-- How the code comes to the verdict, and that there is one.
 --
---   unique             no two numbers are the verdict on a desk
+--   same-count         an array has one number of misfits
 --   at-most            there are no more misfits than rows
 --   one-more           the misfits of an array, from those of its first row and those of the others
 --   counted            a turn of the count, row after row
---   left-over          what the code has when it has reduced a row
+--   Given d xs k ys    what the code asks of a row
 --   row-fits, row-fits-not    the count of a row by its reduced values
---   no-misfit          the verdict is 0 exactly on a code array
+--   left-over          these as the code has them
 -- Assumes nothing.
-use mathlib.Core.Path.{_≡_, refl, sym, ap, _∙_, subst}
-use mathlib.Core.Logic.{_↔_, Iff·trans, Iff·symm, Iff·and}
+use mathlib.Core.Path.{_≡_, refl, sym, ap, _∙_}
+use mathlib.Core.Logic.{_↔_, Iff·trans, Iff·symm}
 use mathlib.Core.Bool.{true, false, true≢false}
 use mathlib.Core.List.{List, [], _∷_}
-use Prim.Native.Nat.{ℕ, zero, suc, _+_, _-_, _*_, _≤_, _<_}
+use Prim.Native.Nat.{ℕ, suc, _+_, _-_, _≤_, _<_}
 use native.Mathlib.Nat.{zero-add, suc-add, add-assoc, le-refl}
 use native.Mathlib.Numerals.{add-one}
 use native.Mathlib.Omega.{arith}
-use lib.ListN.{length, getD, take, drop, length-drop}
+use lib.ListN.{length, getD, take, drop}
 use lib.Seq.{take-take, take-length, take-add, drop-at, drop-cons, drop-drop, length-take-le}
 use Rattle.patch.specs.Parts.{part, lay}
 use Rattle.patch.proofs.Parts.{length-lay}
@@ -24,19 +24,18 @@ use Rattle.refusal.specs.Refusal.{badDegree, someOutside}
 use Rattle.field.specs.Symbols.{IsSymbol}
 use Rattle.field.specs.Arithmetic.{gf}
 use Rattle.field.proofs.Instance.{field}
-use Rattle.poly.specs.Poly.{All, Zero}
+use Rattle.poly.specs.Poly.{All}
 use Rattle.poly.proofs.Forms.{reduce}
 use Rattle.poly.proofs.Differences.{length-reduce}
 use Rattle.poly.proofs.OneOff.{row-exactly}
 use Rattle.rows.specs.Rows.{Points}
 use Rattle.mark.proofs.Parts.{all-map}
 use Rattle.mark.proofs.Proper.{lengths-test}
-use Rattle.desk.specs.Verdict.{IsRow, Misfits, none, fits, fits-not, Verdict}
-use Rattle.desk.specs.declared.Desk.{Desk}
+use Rattle.desk.specs.Verdict.{IsRow, Misfits, none, fits, fits-not}
 use Rattle.desk.proofs.Fronts.{front-of}
 
 module _ {d : ℕ} {xs : List ℕ} where
-  same-count : {ks a : List ℕ} {v w : ℕ} → Misfits d xs ks a v → Misfits d xs ks a w → v ≡ w
+  pub same-count : {ks a : List ℕ} {v w : ℕ} → Misfits d xs ks a v → Misfits d xs ks a w → v ≡ w
   same-count none none = refl
   same-count (fits p r) (fits q s) = same-count r s
   same-count (fits p r) (fits-not q s) = absurd (q p)
@@ -48,7 +47,7 @@ module _ {d : ℕ} {xs : List ℕ} where
   at-most (fits p r) = omega (arith, at-most r)
   at-most (fits-not p r) = omega (arith, at-most r)
 
-  pub one-more : {k : ℕ} {ks a : List ℕ} {u w : ℕ} → Misfits d xs (k ∷ []) (take (length xs) a) u → Misfits d xs ks (drop (length xs) a) w
+  one-more : {k : ℕ} {ks a : List ℕ} {u w : ℕ} → Misfits d xs (k ∷ []) (take (length xs) a) u → Misfits d xs ks (drop (length xs) a) w
       → Misfits d xs (k ∷ ks) a (u + w)
   one-more {a = a} (fits p none) r = rw zero-add (fits (rw (take-take (length xs) (length xs) a (le-refl _)) at p) r)
   one-more {a = a} (fits-not p none) r = rw (suc-add, zero-add) (fits-not (rw (take-take (length xs) (length xs) a (le-refl _)) at p) r)
@@ -64,9 +63,6 @@ module _ {d : ℕ} {xs : List ℕ} where
       let others : Misfits d xs (drop (suc l) ks) (drop (length xs) (drop start a)) w = rw (drop-drop (length xs) start a, ← add-one l) rest in
       rw add-assoc (so-far (u + w) (rw (drop-cons ks l 0 h) (one-more here others)))
 
-pub unique : (d : Desk) (v w : ℕ) → Verdict d v → Verdict d w → v ≡ w
-unique d v w p q = same-count p q
-
 drop-take : (k m : ℕ) (l : List ℕ) → k ≤ length l → drop k (take (k + m) l) ≡ take m (drop k l)
 drop-take k m l h = rw (take-add k m l) (drop-at (take k l) (take m (drop k l)) k (length-take-le k l h))
 
@@ -80,31 +76,41 @@ all-zero l = Iff·trans (lengths-test 0 0 l) (
   all-map (λ (a : ℕ). a ≡ 0) (λ (a : ℕ). (0 ≤ a) × (a ≤ 0)) l (λ a h. (omega arith, omega arith)),
 )
 
-module _ (d : ℕ) (good : badDegree d ≡ false) (xs : List ℕ) (points : Points d xs) (k : ℕ) (h : k ≤ length xs) (ys : List ℕ)
-    (symbols : All (IsSymbol d) ys) (size : length ys ≡ length xs) where
-  pub is-row : IsRow d xs k ys ↔ (someOutside 0 0 (drop k (reduce (gf d) k xs ys)) ≡ false)
+-- what the code asks of a row
+pub record Given (d : ℕ) (xs : List ℕ) (k : ℕ) (ys : List ℕ) : Type 0 where
+  pub degree : badDegree d ≡ false
+  pub points : Points d xs
+  pub length-in : k ≤ length xs
+  pub symbols : All (IsSymbol d) ys
+  pub count : length ys ≡ length xs
+
+module _ {d : ℕ} {xs : List ℕ} {k : ℕ} {ys : List ℕ} (g : Given d xs k ys) where
+  abbrev left : List ℕ
+  left = drop k (reduce (gf d) k xs ys)
+
+  is-row : IsRow d xs k ys ↔ (someOutside 0 0 left ≡ false)
   is-row = Iff·trans
-      (row-exactly (gf d) (field d good) k xs ys (points .distinct) (points .symbols) symbols size h)
-      (Iff·symm (all-zero (drop k (reduce (gf d) k xs ys))))
+      (row-exactly (gf d) (field d (g .degree)) k xs ys (g .points .distinct) (g .points .symbols) (g .symbols) (g .count) (g .length-in))
+      (Iff·symm (all-zero left))
 
   whole : take (length xs) ys ≡ ys
-  whole = rw (← size) (take-length ys)
+  whole = rw (← g .count) (take-length ys)
 
-  pub row-fits : someOutside 0 0 (drop k (reduce (gf d) k xs ys)) ≡ false → Misfits d xs (k ∷ []) ys 0
+  pub row-fits : someOutside 0 0 left ≡ false → Misfits d xs (k ∷ []) ys 0
   row-fits e = fits {k = k} {a = ys} (rw whole (is-row .1 e)) none
 
-  pub row-fits-not : someOutside 0 0 (drop k (reduce (gf d) k xs ys)) ≡ true → Misfits d xs (k ∷ []) ys 1
+  pub row-fits-not : someOutside 0 0 left ≡ true → Misfits d xs (k ∷ []) ys 1
   row-fits-not e = fits-not {k = k} {a = ys} (rw whole (λ r. true≢false (sym e ∙ is-row .0 r))) none
 
   pub left-over : (z : List ℕ) {s t : List ℕ} → length xs ≤ length z → s ≡ lay 0 ys z
-      → t ≡ lay 0 (reduce (gf d) k xs (part 0 (length xs) s)) s → take (length xs - k) (drop k t) ≡ drop k (reduce (gf d) k xs ys)
+      → t ≡ lay 0 (reduce (gf d) k xs (part 0 (length xs) s)) s → take (length xs - k) (drop k t) ≡ left
   left-over z {s} {t} room one two =
-      let long : length s ≡ length z = rw one (length-lay 0 ys z) in
       let n : ℕ = length xs in
       let us : List ℕ = reduce (gf d) k xs ys in
-      let row : part 0 n s ≡ ys = whole-part n s ∙ front-of n ys z one size room in
-      let count : length us ≡ n = length-reduce (gf d) (field d good) k xs ys size in
+      let long : length s ≡ length z = rw one (length-lay 0 ys z) in
+      let row : part 0 n s ≡ ys = whole-part n s ∙ front-of n ys z one (g .count) room in
+      let count : length us ≡ n = length-reduce (gf d) (field d (g .degree)) k xs ys (g .count) in
       let is : t ≡ lay 0 us s = two ∙ rw row refl in
       let front : take n t ≡ us = front-of n us s is count (omega arith) in
-      let all : k + (n - k) ≡ n = omega arith in
-      sym (drop-take k (n - k) t (rw is (rw length-lay (omega arith)))) ∙ rw (all, front) refl
+      let all : k + (n - k) ≡ n = omega (arith, g .length-in) in
+      sym (drop-take k (n - k) t (rw is (rw length-lay (omega (arith, g .length-in))))) ∙ rw (all, front) refl

@@ -4,12 +4,13 @@
 --   zeros n                 n zeros
 --   zeroDesk c              the desk of the code c with an array of zeros
 --   spareCode               the code of the desk that a refused opening hands over
---   outcomeOf k             the outcome by the number of the first check that applies, 0 for none
+--   outcomeOf k, deskBy k   the outcome, and which desk, by the number of the first check that applies, 0 for none
 --   openChecks, putChecks   the checks, in order
---   opening c               what opening with the code c hands over
+--   opening c               what opening with the code c hands over; openingBy, by that number
 --   withColumn n i s a      a, of rows of n symbols, with the symbols s, one a row, in column i
+--   withArray d a           the desk with the array a
 --   placed d i s            the desk with the symbols s in column i
---   putting d i s           what putting the symbols s into column i hands back
+--   putting d i s           what putting the symbols s into column i hands back; puttingBy, by that number
 --   Made d                  d came from opening and putting
 use mathlib.Core.List.{List, [], _∷_}
 use Prim.Native.Nat.{ℕ, zero, suc, _+_, _*_}
@@ -50,11 +51,12 @@ zeroDesk c = record {
 abbrev pub spareCode : Code
 spareCode = mark.codeOf 2 (0 ∷ 1 ∷ []) (1 ∷ [])
 
--- the number of a refusal, 0 for none
+-- the outcome of each number: a refusal's, and 0 for none
 abbrev pub outcomeOf : ℕ → Outcome
 outcomeOf zero = Done
 outcomeOf (suc k) = Refused (suc k)
 
+-- the desk that is handed over where no check applies, and where one does
 abbrev pub deskBy : ℕ → Desk → Desk → Desk
 deskBy zero done refused = done
 deskBy (suc k) done refused = refused
@@ -76,15 +78,15 @@ openingBy k c = record { outcome = outcomeOf k; desk = deskBy k (zeroDesk c) (ze
 abbrev pub opening : Code → Opened
 opening c = openingBy (first (openChecks c)) c
 
--- row after row, the symbol at place i of the row
+-- arrays are row after row: the next row's place is n further on
 unfoldable pub withColumn : ℕ → ℕ → List ℕ → List ℕ → List ℕ
 withColumn n i [] a = a
 withColumn n i (s ∷ ss) a = withColumn n (i + n) ss (set a i s)
 
--- 'it replaces that column and nothing else'
 abbrev pub withArray : Desk → List ℕ → Desk
 withArray d a = record { degree = d .degree; columns = d .columns; rows = d .rows; points = d .points; lengths = d .lengths; array = a }
 
+-- 'it replaces that column and nothing else'
 abbrev pub placed : Desk → ℕ → List ℕ → Desk
 placed d i s = withArray d (withColumn (d .columns) i s (d .array))
 

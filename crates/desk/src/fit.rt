@@ -33,11 +33,8 @@ fn misfit(table: &[u8; LENT], degree: u32, points: &[u8], k: usize, row: &[u8]) 
     let mut s = [0u8; 16];
     rows::store(row, &mut s, 0);
     rows::reduce(table, degree, points, k, &mut s, 0);
-    if refusal::some_outside(0, 0, &s[k..n]) {
-        1
-    } else {
-        0
-    }
+    let nonzero = refusal::some_outside(0, 0, &s[k..n]);
+    if nonzero { 1 } else { 0 }
 }
 
 // The number of rows of the array that do not fit.

@@ -71,10 +71,10 @@ impl Desk {
                 desk: spare,
             };
         }
-        let done = Outcome::Done;
+        let opened = Outcome::Done;
         let desk = Desk::zero(degree, points, lengths);
         Opened {
-            outcome: done,
+            outcome: opened,
             desk: desk,
         }
     }
@@ -113,10 +113,10 @@ impl Desk {
         }
         let mut four = [0u8; 4];
         rows::store(symbols, &mut four, 0);
-        let done = Outcome::Done;
         self = self.place(column, four);
+        let replaced = Outcome::Done;
         Put {
-            outcome: done,
+            outcome: replaced,
             desk: self,
         }
     }

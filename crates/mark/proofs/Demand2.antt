@@ -9,6 +9,7 @@
 --   one-to-one                      no array is written for two messages: an encoder that writes one fixed array is shut out
 --   nothing-written                 P3: an encoder that writes nothing is shut out
 --   last-skipped                    P3: a reader that skips the last column is shut out
+--   six-first                       points 1 2 1 and too long a message: an encoder that makes check 6 before 5 is shut out
 -- Assumes nothing.
 use mathlib.Core.Path.{_≡_, refl, sym, ap, _∙_}
 use mathlib.Core.Logic.{_↔_, _⊎_, inl, inr}
@@ -18,7 +19,7 @@ use Prim.Native.Nat.{ℕ, zero, suc, _*_}
 use native.Mathlib.Omega.{arith}
 use lib.ListN.{length, getD}
 use borrow.Author.Tests.{eq-eqb}
-use Rattle.refusal.specs.Refusal.{first}
+use Rattle.refusal.specs.Refusal.{first, badDegree, outside, someOutside}
 use Rattle.field.specs.Symbols.{plus, modulus, timesX, timesLow, times}
 use Rattle.poly.specs.Poly.{value, valuesAt}
 use Rattle.mark.specs.Code.{Code, codeOf, rows, columns, total, IsMessage, IsArray, encodedRows, encoded, CodeArray}
@@ -177,3 +178,8 @@ last-skipped lent h =
     let e = sym p3-encoded ∙ read-message p3 wrong lent (done (2 ∷ 3 ∷ 1 ∷ [])) h refl .1 in
     let z : _≡_ {A = ℕ} 2 3 = ap (λ (l : List ℕ). getD l 4 0) e in
     omega arith
+
+-- 'Points 1 2 1: refused 6'; with a message of three for k = 2 it is 5
+pub six-first : (lent : List ℕ) → Encodes (codeOf 4 (1 ∷ 2 ∷ 1 ∷ []) (2 ∷ [])) (5 ∷ 6 ∷ 7 ∷ []) lent (refused 6 lent) → ⊥
+unfolding first badDegree outside someOutside total
+six-first lent h = let z = encode-refused (codeOf 4 (1 ∷ 2 ∷ 1 ∷ []) (2 ∷ [])) (5 ∷ 6 ∷ 7 ∷ []) lent (refused 6 lent) h 6 refl .0 in omega arith

@@ -11,7 +11,7 @@ use crate::checks;
 use field::tables;
 use field::tables::LENT;
 
-// Row after row, the values at the points of the row's part of the message, at the front of s.
+// Row after row, at the front of s: the values at the points of the row's part of the message.
 fn write_rows(
     table: &[u8; LENT],
     degree: u32,

@@ -56,7 +56,7 @@ fn read_row(
     all_zero(&held[k..row.len()])
 }
 
-// Row after row, the message of a code array at the front of s; answers whether the array is one.
+// Row after row, at the front of s: the message of a code array. Answers whether the array is one.
 fn read_rows(
     table: &[u8; LENT],
     degree: u32,

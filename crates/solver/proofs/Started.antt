@@ -176,7 +176,12 @@ module _ (d : ℕ) (good : badDegree d ≡ false) (rows : List (Row ℕ)) (leads
         let long : length vs ≡ C = length-map cs _ ∙ sym (length-map cs _) in
         let ns : List ℕ = countsOf rows in
         let fits : total (take j ns) + getD ns j 0 ≤ length vs =
-        omega (arith, total-within ns j (omega (arith, length-map rows (λ (row : Row ℕ). length row))), counts-total 0 rows, length-map cs (λ (c : Condition ℕ). unit (gf d) (c .row) j)) in
+        omega (
+          arith,
+          total-within ns j (omega (arith, length-map rows (λ (row : Row ℕ). length row))),
+          counts-total 0 rows,
+          length-map cs (λ (c : Condition ℕ). unit (gf d) (c .row) j),
+        ) in
         rw (others .changed (suc j) (omega arith), first .others (suc j) (omega arith), leading (suc j) (omega arith), ← long)
         (held-row (total (take j ns)) (getD ns j 0) vs (slots (suc j) l) (size (suc j) (omega arith)) (omega arith) fits
         (marks-run d j 0 j rows (sym (zero-add j))) d s j good (omega arith) (marks-in d j (field d good) cs))

@@ -5,6 +5,7 @@
 -- Assumes nothing.
 use mathlib.Core.Path.{_≡_, refl, sym, _∙_}
 use mathlib.Core.List.{List, [], _∷_, map}
+use mathlib.Core.Option.{none, some}
 use mathlib.Core.Bool.{false}
 use Prim.Native.Nat.{ℕ, zero, suc, _+_, _-_, _*_, _≤_, _<_}
 use native.Mathlib.Decide.{ℕ-discrete, decLt}
@@ -17,6 +18,7 @@ use Rattle.refusal.specs.Refusal.{badDegree}
 use Rattle.field.specs.Symbols.{over}
 use Rattle.field.specs.Arithmetic.{gf}
 use Rattle.basis.proofs.Mix.{mix}
+use Rattle.basis.proofs.Pivot.{lowest}
 use Rattle.basis.proofs.Lines.{Line, later, lifted, keep, now, fix-by, fix, step-by, step}
 use Rattle.basis.proofs.Apart.{step-apart, apart-leads}
 use Rattle.solver.specs.Slots.{slots}
@@ -35,7 +37,8 @@ map-get f [] z j lt = absurd (omega arith)
 map-get f (e ∷ l) z zero lt = refl
 map-get f (e ∷ l) z (suc j) lt = map-get f l z j (omega arith)
 
-module _ (d : ℕ) (points : List ℕ) (s i : ℕ) (next : i < length points) (small : length points ≤ 380) {leads space : List ℕ} {es : List (Line ℕ)} (h : Holds d (length points) s i leads space es)
+module _ (d : ℕ) (points : List ℕ) (s i : ℕ) (next : i < length points) (small : length points ≤ 380)
+    {leads space : List ℕ} {es : List (Line ℕ)} (h : Holds d (length points) s i leads space es)
     (ds : List ℕ) (heads : (j : ℕ) → j < s → getD ds j 0 ≡ getD space (768 * j + i) 0) (r : ℕ) (is : found s r ≡ firstLowest ds leads s)
   where
     abbrev C : ℕ
@@ -95,13 +98,24 @@ module _ (d : ℕ) (points : List ℕ) (s i : ℕ) (next : i < length points) (s
         the-pivot : Held d C s (i + 1) (slots r space₂) (getD leads₂ r 0)
             (record { lead = s + p .lead; locator = mix (gf d) x (0 ∷ p .locator) (p .locator); values = lifted (gf d) x xs (later (p .values)) })
         the-pivot =
-            rw (turned .raises .changed, turned .mixes .changed r lt, mixed-pivot d ds r w (i + 1) r (slots r space) refl, getD-set-same leads r (getD leads r 0 + s) 0 (omega (arith, h .enough)))
+            rw (
+              turned .raises .changed,
+              turned .mixes .changed r lt,
+              mixed-pivot d ds r w (i + 1) r (slots r space) refl,
+              getD-set-same leads r (getD leads r 0 + s) 0 (omega (arith, h .enough)),
+            )
             (held-raise d good C s i next (h .each r lt) xs x width left (size r lt) low (omega arith))
 
-        kept : (j : ℕ) → j < s → (j ≡ r → ⊥) → now (gf d) (getD es j blank) ≡ 0 → Held d C s (i + 1) (slots j space₂) (getD leads₂ j 0) (keep (getD es j blank))
+        kept : (j : ℕ) → j < s → (j ≡ r → ⊥) → now (gf d) (getD es j blank) ≡ 0
+            → Held d C s (i + 1) (slots j space₂) (getD leads₂ j 0) (keep (getD es j blank))
         kept j below other value =
             let gone : getD ds j 0 ≡ 0 = heads j below ∙ value-at d C s i next small h j below ∙ value in
-            rw (turned .raises .others j other, turned .mixes .changed j below, mixed-zero d ds r w (i + 1) j (slots j space) gone, getD-set-other leads r j (getD leads r 0 + s) 0 other)
+            rw (
+              turned .raises .others j other,
+              turned .mixes .changed j below,
+              mixed-zero d ds r w (i + 1) j (slots j space) gone,
+              getD-set-other leads r j (getD leads r 0 + s) 0 other,
+            )
             (held-keep d C s i next (h .each j below))
 
         the-mixed : (j : ℕ) → j < s → (j ≡ r → ⊥) → (now (gf d) (getD es j blank) ≡ 0 → ⊥)
@@ -120,7 +134,8 @@ module _ (d : ℕ) (points : List ℕ) (s i : ℕ) (next : i < length points) (s
               here,
               there,
             )
-            (held-mix d good C s i next (h .each j below) (h .each r lt) _ w (size j below) (omega (arith, w-length)) (pivot-lowest d C s i next small h ds heads r is lt j below value) copied-at)
+            (held-mix d good C s i next (h .each j below) (h .each r lt) _ w (size j below) (omega (arith, w-length))
+            (pivot-lowest d C s i next small h ds heads r is lt j below value) copied-at)
 
         fixed : (j : ℕ) → j < s → (t : Dec (getD es j blank .lead ≡ p .lead)) (z : Dec (now (gf d) (getD es j blank) ≡ 0))
             → Held d C s (i + 1) (slots j space₂) (getD leads₂ j 0) (fix-by (gf d) ℕ-discrete s x xs p (getD es j blank) t z)
@@ -131,12 +146,15 @@ module _ (d : ℕ) (points : List ℕ) (s i : ℕ) (next : i < length points) (s
         fixed j below (no e) (yes z) = kept j below (λ same. e (rw same)) z
         fixed j below (no e) (no z) = the-mixed j below (λ same. e (rw same)) z
 
+        one-found : lowest (λ (e : Line ℕ). e .lead) (λ (e : Line ℕ). ℕ-discrete (now (gf d) e) 0) none es ≡ some p
+        one-found = pivot-found d C s i next small h ds heads r is lt
+
         pub step-some : Holds d C s (i + 1) leads₂ space₂ (step (gf d) ℕ-discrete s x xs es)
         unfolding step step-by fix
         step-some =
             record {
-              count = rw (pivot-found d C s i next small h ds heads r is lt) (length-map es (fix (gf d) ℕ-discrete s x xs p) ∙ h .count);
+              count = rw one-found (length-map es (fix (gf d) ℕ-discrete s x xs p) ∙ h .count);
               enough = rw length-set (h .enough);
               apart = step-apart (gf d) ℕ-discrete s x xs es (h .apart);
-              each = λ j below. rw ((pivot-found d C s i next small h ds heads r is lt), map-get (fix (gf d) ℕ-discrete s x xs p) es blank j (omega (arith, h .count))) (fixed j below _ _);
+              each = λ j below. rw (one-found, map-get (fix (gf d) ℕ-discrete s x xs p) es blank j (omega (arith, h .count))) (fixed j below _ _);
             }

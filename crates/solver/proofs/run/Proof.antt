@@ -10,7 +10,8 @@ use Rattle.solver.proofs.run.Statement.{statement}
 use Rattle.solver.proofs.run.Tie as tie
 
 abbrev Inv-loop : tie.InvT-loop
-Inv-loop table degree points lines leads₀ space₀ i₀ leads space i = (i ≤ length points) × (length space ≡ length space₀) × Left degree points lines leads₀ space₀ i leads space
+Inv-loop table degree points lines leads₀ space₀ i₀ leads space i =
+    (i ≤ length points) × (length space ≡ length space₀) × Left degree points lines leads₀ space₀ i leads space
 
 abbrev μ-loop : tie.MeasureT-loop
 μ-loop table degree points lines leads₀ space₀ i₀ leads space i = length points - i
@@ -19,10 +20,11 @@ loop-holds : tie.Need-loop-holds Inv-loop μ-loop
 loop-holds c = (search needs, search needs, left-all _ _ _ _ _)
 
 step-requires : tie.Need-step-requires Inv-loop μ-loop
-step-requires c κs = let pre = c .before .before .before .before .before .before .pre in
-    let loop = c .before .before .before .loop in
-    let (fs, held, same) = loop .inv .2 (pre .1 .1 .0) (pre .1 .1 .1) in
-    (pre .0, ((c .before .before .loop-test .taken, pre .1 .0 .0, pre .1 .0 .1, pre .1 .0 .2, omega (arith, pre .1 .0, loop .inv .1)), (fs, held)))
+step-requires c κs =
+    let turn = c .before .before .before in
+    let pre = turn .before .before .before .pre in
+    let (fs, held, same) = turn .loop .inv .2 (pre .1 .1 .0) (pre .1 .1 .1) in
+    (pre .0, ((c .before .before .loop-test .taken, pre .1 .0 .0, pre .1 .0 .1, pre .1 .0 .2, omega (arith, pre .1 .0, turn .loop .inv .1)), (fs, held)))
 
 add-i : tie.Need-add-i Inv-loop μ-loop
 add-i c = search needs
@@ -31,9 +33,11 @@ loop-less : tie.Need-loop-less Inv-loop μ-loop
 loop-less c = search needs
 
 loop-again : tie.Need-loop-again Inv-loop μ-loop
-loop-again c = let loop = c .before .before .before .before .before .before .loop in
+loop-again c =
+    let step = c .before .before .step in
+    let inv = c .before .before .before .before .before .before .loop .inv in
     let below = c .before .before .before .before .before .loop-test .taken in
-    (omega (arith, below), c .before .before .step .kept .1 .1 .1 .1 .1 .1 .0 ∙ loop .inv .1, left-turn _ _ _ _ _ _ _ _ _ _ below (loop .inv .2) (c .before .before .step .ensures))
+    (omega (arith, below), step .kept .1 .1 .1 .1 .1 .1 .0 ∙ inv .1, left-turn _ _ _ _ _ _ _ _ _ _ below (inv .2) (step .ensures))
 
 same-length : tie.Need-same-length Inv-loop μ-loop
 same-length c = search needs

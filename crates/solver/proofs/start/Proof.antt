@@ -15,7 +15,11 @@ same-length : tie.Need-same-length
 same-length c = search needs
 
 returns : tie.Need-returns
-returns c = let pre = c .before .before .before .before .before .before .before .before .before .before .before .before .pre in starts _ _ _ _ _ (pre .0 .0) (pre .0 .1) (pre .1) (c .before .before .before .before .before .before .before .first-line .ensures) (c .before .before .before .row-lines .ensures)
+returns c =
+    let rows = c .before .before .before in
+    let first = rows .before .before .before .before in
+    let pre = first .before .before .before .before .before .pre in
+    starts _ _ _ _ _ (pre .0 .0) (pre .0 .1) (pre .1) (first .first-line .ensures) (rows .row-lines .ensures)
 
 pub start-spec : {M : Type 1} → statement M
 start-spec = tie.close (tie.spec first-line-requires row-lines-requires same-length returns)

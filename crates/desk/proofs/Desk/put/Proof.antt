@@ -1,10 +1,10 @@
 -- `Desk::put` hands back what putting promises.
 -- Assumes nothing.
-use mathlib.Core.Path.{_≡_, sym, ap, _∙_}
+use mathlib.Core.Path.{sym, ap, _∙_}
 use native.Mathlib.Omega.{arith}
 use Rattle.desk.specs.Desk.{placed}
 use Rattle.desk.proofs.Fronts.{front-of}
-use Rattle.desk.proofs.Sound.{Puttable, puttable, Sound, sound}
+use Rattle.desk.proofs.Sound.{Puttable, puttable, sound}
 use Rattle.desk.proofs.Promised.{puts, puts-not, made-put}
 use borrow.Author.Needs.{needs}
 use Rattle.desk.proofs.Desk.put.Statement.{statement}

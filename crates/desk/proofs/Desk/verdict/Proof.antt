@@ -3,7 +3,7 @@
 use mathlib.Core.Path.{sym}
 use native.Mathlib.Omega.{arith}
 use lib.Seq.{length-take-le}
-use Rattle.desk.proofs.Sound.{Sound, sound}
+use Rattle.desk.proofs.Sound.{sound}
 use borrow.Author.Needs.{needs}
 use Rattle.desk.proofs.Desk.verdict.Statement.{statement}
 use Rattle.desk.proofs.Desk.verdict.Tie as tie
@@ -16,34 +16,34 @@ lend-requires c κs = sound (c .before .before .before .pre) .degree
 
 array-share-prefix-points : tie.Need-array-share-prefix-points
 array-share-prefix-points c =
-    let h = sound (c .before .before .before .before .before .pre) in omega (arith, h .points, h .most-columns)
+    let h = sound (c .before .before .before .before .before .pre) in omega (arith, h .points-size, h .most-columns)
 
 slice-aggregate-misfits : tie.Need-slice-aggregate-misfits
-slice-aggregate-misfits c = sym (sound (c .before .before .before .before .before .before .pre) .columns)
+slice-aggregate-misfits c = sym (sound (c .before .before .before .before .before .before .pre) .column-count)
 
 array-share-prefix-lengths : tie.Need-array-share-prefix-lengths
 array-share-prefix-lengths c =
-    let h = sound (c .before .before .before .before .before .before .pre) in omega (arith, h .lengths, h .most-rows)
+    let h = sound (c .before .before .before .before .before .before .pre) in omega (arith, h .lengths-size, h .most-rows)
 
 slice-aggregate-misfits-2 : tie.Need-slice-aggregate-misfits-2
-slice-aggregate-misfits-2 c = sym (sound (c .before .before .before .before .before .before .before .pre) .rows)
+slice-aggregate-misfits-2 c = sym (sound (c .before .before .before .before .before .before .before .pre) .row-count)
 
 array-share-prefix-array : tie.Need-array-share-prefix-array
 array-share-prefix-array c =
-    let h = sound (c .before .before .before .before .before .before .before .pre) in omega (arith, h .places, h .cells)
+    let h = sound (c .before .before .before .before .before .before .before .pre) in omega (arith, h .array-size, h .cells)
 
 slice-aggregate-misfits-3 : tie.Need-slice-aggregate-misfits-3
 slice-aggregate-misfits-3 c =
     let start = c .before .before .before .before .before .before .before .before in
     let h = sound (start .pre) in
-    sym (length-take-le _ (start .args .self .array) (omega (arith, h .places, h .cells)))
+    sym (length-take-le _ (start .args .self .array) (omega (arith, h .array-size, h .cells)))
 
 misfits-requires : tie.Need-misfits-requires
 misfits-requires c κs =
     let h = sound (c .before .before .before .before .before .before .before .before .pre) in (
       (h .degree, c .before .before .before .before .lend .ensures),
       (
-        (omega (arith, h .columns, h .most-columns), omega (arith, h .rows, h .most-rows)),
+        (omega (arith, h .column-count, h .most-columns), omega (arith, h .row-count, h .most-rows)),
         (h .proper, h .array),
       ),
     )

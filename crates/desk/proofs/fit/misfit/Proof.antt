@@ -1,14 +1,13 @@
 -- `fit::misfit` reduces a copy of the row, and the row fits where the reduced values are zero.
 -- Assumes nothing.
 use mathlib.Core.Path.{_≡_, sym, ap, _∙_}
-use Prim.Native.Nat.{_-_}
 use native.Mathlib.Omega.{arith}
-use lib.ListN.{length, take, drop}
+use lib.ListN.{drop}
 use Rattle.refusal.specs.Refusal.{someOutside}
 use Rattle.field.specs.Arithmetic.{gf}
 use Rattle.poly.proofs.Forms.{reduce}
 use Rattle.rows.proofs.Symbols.{symbols-lay}
-use Rattle.desk.proofs.Verdicts.{left-over, row-fits, row-fits-not}
+use Rattle.desk.proofs.Verdicts.{Given, left-over, row-fits, row-fits-not}
 use borrow.Author.Needs.{needs}
 use Rattle.desk.proofs.fit.misfit.Statement.{statement}
 use Rattle.desk.proofs.fit.misfit.Tie as tie
@@ -50,23 +49,23 @@ module _ (c : tie.After-some-outside) where
   abbrev start : tie.Start
   start = c .before .before .before .before .before .before .before .before .before .before .before
 
-  reduced : take (length (start .args .points .now) - start .args .k) (drop (start .args .k) (c .before .before .before .before .reduce .last .1 .1 .1 .1 .0))
-      ≡ drop (start .args .k) (reduce (gf (start .args .degree)) (start .args .k) (start .args .points .now) (start .args .row .now))
-  reduced =
+  given : Given (start .args .degree) (start .args .points .now) (start .args .k) (start .args .row .now)
+  given =
       let p = start .pre in
-      left-over (start .args .degree) (p .0 .0) (start .args .points .now) (p .0 .2) (start .args .k) (p .1 .0 .0) (start .args .row .now) (p .1 .1) (p .1 .0 .2) _ (omega (arith, p .1 .0 .1)) (c .before .before .before .before .before .before .before .store .ensures) (c .before .before .before .before .reduce .ensures)
+      record { degree = p .0 .0; points = p .0 .2; length-in = p .1 .0 .0; symbols = p .1 .1; count = p .1 .0 .2 }
+
+  nonzero : c .some-outside .result
+      ≡ someOutside 0 0 (drop (start .args .k) (reduce (gf (start .args .degree)) (start .args .k) (start .args .points .now) (start .args .row .now)))
+  nonzero =
+      let stored = c .before .before .before .before .before .before .before .store .ensures in
+      c .some-outside .ensures
+      ∙ ap (someOutside 0 0) (left-over given _ (omega (arith, start .pre .1 .0 .1)) stored (c .before .before .before .before .reduce .ensures))
 
 returns : tie.Need-returns
-returns c =
-    let s = start (c .before) in
-    let p = s .pre in
-    row-fits-not (s .args .degree) (p .0 .0) (s .args .points .now) (p .0 .2) (s .args .k) (p .1 .0 .0) (s .args .row .now) (p .1 .1) (p .1 .0 .2) (ap (someOutside 0 0) (sym (reduced (c .before))) ∙ sym (c .before .some-outside .ensures) ∙ c .if1 .taken)
+returns c = row-fits-not (given (c .before)) (sym (nonzero (c .before)) ∙ c .if1 .taken)
 
 returns-2 : tie.Need-returns-2
-returns-2 c =
-    let s = start (c .before) in
-    let p = s .pre in
-    row-fits (s .args .degree) (p .0 .0) (s .args .points .now) (p .0 .2) (s .args .k) (p .1 .0 .0) (s .args .row .now) (p .1 .1) (p .1 .0 .2) (ap (someOutside 0 0) (sym (reduced (c .before))) ∙ sym (c .before .some-outside .ensures) ∙ c .if1 .left)
+returns-2 c = row-fits (given (c .before)) (sym (nonzero (c .before)) ∙ c .if1 .left)
 
 pub misfit-spec : {M : Type 1} → statement M
 misfit-spec =

@@ -2,7 +2,7 @@
 -- Assumes nothing.
 use mathlib.Core.Path.{_≡_, refl, sym, _∙_}
 use native.Mathlib.Omega.{arith}
-use lib.ListN.{length, replicate}
+use lib.ListN.{length, replicate, length-take}
 use lib.Seq.{length-take-le}
 use Rattle.mark.specs.Code.{Code, codeOf, encoded}
 use Rattle.mark.specs.Checks.{codeChecks}
@@ -50,12 +50,10 @@ array-share-prefix-made : tie.Need-array-share-prefix-made
 array-share-prefix-made c = omega (arith, c .before .write-rows .kept .1 .1 .1 .1 .1 .0, passed (c .before .before .before .before .before .before .before .before .before .before .before .before .before) .array, passed (c .before .before .before .before .before .before .before .before .before .before .before .before .before) .counts .cells)
 
 slice-aggregate-copy-2 : tie.Need-slice-aggregate-copy-2
-slice-aggregate-copy-2 c = sym (length-take-le _ _ (array-share-prefix-made (c .before)))
+slice-aggregate-copy-2 c = sym (length-take-le _ (c .before .before .write-rows .last .1 .1 .1 .1 .1 .0) (array-share-prefix-made (c .before)))
 
 copy-requires-2 : tie.Need-copy-requires-2
-copy-requires-2 c κs =
-    let start = c .before .before .before .before .before .before .before .before .before .before .before .before .before .before .before in
-    omega (arith, length-take-le (length (start .args .array .now)) (c .before .before .before .write-rows .last .1 .1 .1 .1 .1 .0) (array-share-prefix-made (c .before .before)))
+copy-requires-2 c κs = omega (arith, length-take (length (c .before .before .before .before .before .before .before .before .before .before .before .before .before .before .before .args .array .now)) (c .before .before .before .write-rows .last .1 .1 .1 .1 .1 .0))
 
 same-length : tie.Need-same-length
 same-length c = search needs

@@ -3,9 +3,9 @@
 use mathlib.Core.Path.{_≡_, refl, sym}
 use mathlib.Core.Logic.{_↔_}
 use mathlib.Core.Bool.{true≢false}
-use Prim.Native.Nat.{ℕ, _-_, _≤_}
+use Prim.Native.Nat.{ℕ, _+_, _-_, _≤_}
 use native.Mathlib.Omega.{arith}
-use lib.ListN.{length, drop, drop-of-length-le}
+use lib.ListN.{length, getD, drop, drop-of-length-le}
 use Rattle.poly.specs.Poly.{All}
 use Rattle.mark.proofs.Parts.{all-cut}
 use borrow.Author.Needs.{needs}
@@ -18,6 +18,12 @@ Inv-loop s i₀ i = (i ≤ length s) × (All (λ (a : ℕ). a ≡ 0) (drop i s) 
 abbrev μ-loop : tie.MeasureT-loop
 μ-loop s i₀ i = length s - i
 
+-- in a turn the symbols from i on are zero exactly when the one at i is, and those behind it
+cut : (c : tie.In-loop Inv-loop μ-loop)
+    → All (λ (a : ℕ). a ≡ 0) (drop (c .before .loop .i) (c .before .before .args .s .now))
+    ↔ ((getD (c .before .before .args .s .now) (c .before .loop .i) 0 ≡ 0) × All (λ (a : ℕ). a ≡ 0) (drop (c .before .loop .i + 1) (c .before .before .args .s .now)))
+cut c = all-cut (λ (a : ℕ). a ≡ 0) (c .before .before .args .s .now) (c .before .loop .i) 0 (omega arith)
+
 loop-holds : tie.Need-loop-holds Inv-loop μ-loop
 loop-holds c = search needs
 
@@ -25,7 +31,7 @@ shared-slice-read-if1 : tie.Need-shared-slice-read-if1 Inv-loop μ-loop
 shared-slice-read-if1 c = search needs
 
 returns : tie.Need-returns Inv-loop μ-loop
-returns c = (λ e. absurd (true≢false (sym e)), λ z. absurd (c .if1 .taken (all-cut _ _ _ 0 (c .before .before .loop-test .taken) .0 (c .before .before .before .loop .inv .1 .1 z) .0)))
+returns c = (λ e. absurd (true≢false (sym e)), λ z. absurd (c .if1 .taken (cut (c .before .before) .0 (c .before .before .before .loop .inv .1 .1 z) .0)))
 
 add-i : tie.Need-add-i Inv-loop μ-loop
 add-i c = search needs
@@ -34,15 +40,14 @@ loop-less : tie.Need-loop-less Inv-loop μ-loop
 loop-less c = search needs
 
 loop-again : tie.Need-loop-again Inv-loop μ-loop
-loop-again c = (
-  omega arith,
-  let cut = all-cut (λ (a : ℕ). a ≡ 0) _ _ 0 (c .before .before .loop-test .taken) in
-      let rest = c .before .before .before .loop .inv .1 in
-      (λ z. rest .0 (cut .1 (c .if1 .left, z)), λ z. cut .0 (rest .1 z) .1),
-)
+loop-again c =
+    let rest = c .before .before .before .loop .inv .1 in
+    (omega arith, (λ z. rest .0 (cut (c .before .before) .1 (c .if1 .left, z)), λ z. cut (c .before .before) .0 (rest .1 z) .1))
 
 returns-2 : tie.Need-returns-2 Inv-loop μ-loop
-returns-2 c = (λ e. c .before .loop .inv .1 .0 (rw (drop-of-length-le _ (c .loop-test .left)) tt), λ z. refl)
+returns-2 c =
+    let whole : length (c .before .before .args .s .now) ≤ c .before .loop .i = omega arith in
+    (λ e. c .before .loop .inv .1 .0 (rw (drop-of-length-le _ whole) tt), λ z. refl)
 
 pub all-zero-spec : {M : Type 1} → statement M
 all-zero-spec =

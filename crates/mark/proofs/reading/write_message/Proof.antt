@@ -5,7 +5,7 @@ use mathlib.Core.Bool.{true, false, true≢false}
 use mathlib.Core.List.{List}
 use Prim.Native.Nat.{ℕ}
 use native.Mathlib.Omega.{arith}
-use lib.ListN.{length, replicate}
+use lib.ListN.{length, replicate, length-take}
 use lib.Seq.{length-take-le}
 use Rattle.patch.specs.Parts.{lay}
 use Rattle.mark.specs.Code.{Code, codeOf, IsMessage, encoded, CodeArray}
@@ -61,12 +61,10 @@ array-share-prefix-made c =
     omega (arith, c .before .before .read-rows .kept .1 .1 .1 .1 .1 .0, ok .message, ok .counts .fits, ok .counts .cells)
 
 slice-aggregate-copy-2 : tie.Need-slice-aggregate-copy-2
-slice-aggregate-copy-2 c = sym (length-take-le _ _ (array-share-prefix-made (c .before)))
+slice-aggregate-copy-2 c = sym (length-take-le _ (c .before .before .before .read-rows .last .1 .1 .1 .1 .1 .0) (array-share-prefix-made (c .before)))
 
 copy-requires-2 : tie.Need-copy-requires-2
-copy-requires-2 c κs =
-    let start = c .before .before .before .before .before .before .before .before .before .before .before .before .before .before .before .before in
-    omega (arith, length-take-le (length (start .args .message .now)) (c .before .before .before .before .read-rows .last .1 .1 .1 .1 .1 .0) (array-share-prefix-made (c .before .before)))
+copy-requires-2 c κs = omega (arith, length-take (length (c .before .before .before .before .before .before .before .before .before .before .before .before .before .before .before .before .args .message .now)) (c .before .before .before .before .read-rows .last .1 .1 .1 .1 .1 .0))
 
 same-length : tie.Need-same-length
 same-length c = search needs

@@ -18,7 +18,12 @@ same-length : tie.Need-same-length
 same-length c = search needs
 
 returns : tie.Need-returns
-returns c = let pre = c .before .before .before .before .before .before .before .before .before .before .before .before .before .before .pre in first-only _ _ (pre .0) (pre .1) (c .before .before .before .before .before .before .before .before .before .before .clear .ensures) (c .before .before .before .before .before .before .store .ensures) (c .before .before .ones .ensures)
+returns c =
+    let written = c .before .before in
+    let stored = written .before .before .before .before in
+    let cleared = stored .before .before .before .before in
+    let pre = cleared .before .before .before .before .pre in
+    first-only _ _ (pre .0) (pre .1) (cleared .clear .ensures) (stored .store .ensures) (written .ones .ensures)
 
 pub first-line-spec : {M : Type 1} → statement M
 first-line-spec =

@@ -37,7 +37,9 @@ same-length : tie.Need-same-length Inv-loop μ-loop
 same-length c = rw (c .before .loop .inv .1) (length-patch _ _ _ _)
 
 returns : tie.Need-returns Inv-loop μ-loop
-returns c = let whole : c .before .loop .i ≡ c .before .before .args .n = omega arith in rw (← whole) (c .before .loop .inv .1)
+returns c =
+    let whole : c .before .loop .i ≡ c .before .before .args .n = omega arith in
+    rw (← whole) (c .before .loop .inv .1)
 
 pub ones-spec : {M : Type 1} → statement M
 ones-spec =

@@ -24,7 +24,11 @@ same-length : tie.Need-same-length
 same-length c = search needs
 
 returns : tie.Need-returns
-returns c = let pre = c .before .before .before .before .before .before .before .before .before .pre in row-only _ _ (pre .1) _ _ (pre .0) (c .before .before .before .before .before .before .clear .ensures) (c .before .before .ones .ensures)
+returns c =
+    let written = c .before .before in
+    let cleared = written .before .before .before .before in
+    let pre = cleared .before .before .before .pre in
+    row-only _ _ (pre .1) _ _ (pre .0) (cleared .clear .ensures) (written .ones .ensures)
 
 pub row-line-spec : {M : Type 1} → statement M
 row-line-spec =

@@ -31,10 +31,13 @@ shared-slice-read-row-line : tie.Need-shared-slice-read-row-line Inv-loop μ-loo
 shared-slice-read-row-line c = search needs
 
 row-line-requires : tie.Need-row-line-requires Inv-loop μ-loop
-row-line-requires c κs = let start = c .before .before .before .before .before .before in
-    let loop = c .before .before .before .loop in
-    let below = c .before .before .loop-test .taken in
-    (rw (loop .inv .1) (omega (arith, total-within (start .args .counts .now) (loop .j) below, start .pre)), omega (arith, below, start .pre, loop .inv .2 .begun .long))
+row-line-requires c κs =
+    let turn = c .before .before .before in
+    let start = turn .before .before .before in
+    let below = c .before .before .loop-test .taken in (
+      rw (turn .loop .inv .1) (omega (arith, total-within (start .args .counts .now) (turn .loop .j) below, start .pre)),
+      omega (arith, below, start .pre, turn .loop .inv .2 .begun .long),
+    )
 
 mul-at : tie.Need-mul-at Inv-loop μ-loop
 mul-at c = search needs
@@ -43,8 +46,12 @@ shared-slice-read-at : tie.Need-shared-slice-read-at Inv-loop μ-loop
 shared-slice-read-at c = search needs
 
 add-at : tie.Need-add-at Inv-loop μ-loop
-add-at c = let loop = c .before .before .before .before .before .before .before .loop in
-    let within : loop .at + getD (c .before .before .before .before .before .before .before .before .before .before .args .counts .now) (loop .j) 0 ≤ 768 = rw (loop .inv .1) (omega (arith, total-within (c .before .before .before .before .before .before .before .before .before .before .args .counts .now) (loop .j) (c .before .before .before .before .before .before .loop-test .taken), c .before .before .before .before .before .before .before .before .before .before .pre)) in
+add-at c =
+    let turn = c .before .before .before .before .before .before .before in
+    let start = turn .before .before .before in
+    let counts = start .args .counts .now in
+    let within : turn .loop .at + getD counts (turn .loop .j) 0 ≤ 768 =
+    rw (turn .loop .inv .1) (omega (arith, total-within counts (turn .loop .j) (c .before .before .before .before .before .before .loop-test .taken), start .pre)) in
     omega arith
 
 add-j : tie.Need-add-j Inv-loop μ-loop
@@ -54,15 +61,18 @@ loop-less : tie.Need-loop-less Inv-loop μ-loop
 loop-less c = search needs
 
 loop-again : tie.Need-loop-again Inv-loop μ-loop
-loop-again c = let loop = c .before .before .before .before .before .before .before .loop in
+loop-again c =
+    let inv = c .before .before .before .before .before .before .before .loop .inv in
     let below = c .before .before .before .before .before .before .loop-test .taken in
-    (omega (arith, below), rw (loop .inv .1) (total-next _ _ below), rows-more _ _ _ _ (loop .inv .1) (loop .inv .2) (c .before .before .before .row-line .ensures))
+    (omega (arith, below), rw (inv .1) (total-next _ _ below), rows-more _ _ _ _ (inv .1) (inv .2) (c .before .before .before .row-line .ensures))
 
 same-length : tie.Need-same-length Inv-loop μ-loop
 same-length c = search needs
 
 returns : tie.Need-returns Inv-loop μ-loop
-returns c = let whole : c .before .loop .j ≡ length (c .before .before .before .before .args .counts .now) = omega arith in rw (← whole) (c .before .loop .inv .2 .begun)
+returns c =
+    let whole : c .before .loop .j ≡ length (c .before .before .before .before .args .counts .now) = omega arith in
+    rw (← whole) (c .before .loop .inv .2 .begun)
 
 pub row-lines-spec : {M : Type 1} → statement M
 row-lines-spec =

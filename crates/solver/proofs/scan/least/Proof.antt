@@ -10,7 +10,10 @@ pivot-requires : tie.Need-pivot-requires
 pivot-requires c κs = search needs
 
 returns : tie.Need-returns
-returns c = (c .pivot .ensures .0, λ es size led. least-scan _ _ _ _ (c .pivot .ensures .1) es size led (λ j lt. all-marked j (omega (arith, c .before .before .pre))))
+returns c = (
+  c .pivot .ensures .0,
+  λ es size led. least-scan _ _ _ _ (c .pivot .ensures .1) es size led (λ j lt. all-marked j (omega (arith, c .before .before .pre))),
+)
 
 pub least-spec : {M : Type 1} → statement M
 least-spec = tie.close (tie.spec pivot-requires returns)

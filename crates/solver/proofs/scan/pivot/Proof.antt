@@ -28,7 +28,9 @@ loop-less : tie.Need-loop-less Inv-loop μ-loop
 loop-less c = search needs
 
 loop-again : tie.Need-loop-again Inv-loop μ-loop
-loop-again c = (omega (arith, c .before .loop-test .taken), c .better .ensures .0, rest-turn _ _ _ _ _ _ (c .before .loop-test .taken) (c .better .ensures .1) ∙ c .before .before .loop .inv .2)
+loop-again c =
+    let below = c .before .loop-test .taken in
+    (omega (arith, below), c .better .ensures .0, rest-turn _ _ _ _ _ _ below (c .better .ensures .1) ∙ c .before .before .loop .inv .2)
 
 returns : tie.Need-returns Inv-loop μ-loop
 returns c = (c .before .loop .inv .1, sym (rest-none _ _ _ _ _ (omega arith)) ∙ c .before .loop .inv .2)

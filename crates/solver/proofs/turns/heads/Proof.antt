@@ -41,7 +41,9 @@ loop-again : tie.Need-loop-again Inv-loop μ-loop
 loop-again c = (omega (arith, c .before .loop-test .taken), patch-front _ _ _ (c .before .before .loop .inv .1) refl)
 
 returns : tie.Need-returns Inv-loop μ-loop
-returns c = let whole : c .before .loop .j ≡ c .before .before .args .lines = omega arith in rw (← whole) (c .before .loop .inv .1)
+returns c =
+    let whole : c .before .loop .j ≡ c .before .before .args .lines = omega arith in
+    rw (← whole) (c .before .loop .inv .1)
 
 pub heads-spec : {M : Type 1} → statement M
 heads-spec =

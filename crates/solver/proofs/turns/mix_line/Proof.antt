@@ -33,13 +33,21 @@ add-add-times : tie.Need-add-add-times
 add-add-times c = search needs
 
 add-times-requires : tie.Need-add-times-requires
-add-times-requires c κs = let pre = c .before .before .before .before .before .before .before .before .before .pre in ((pre .0 .0, pre .0 .1, rw (c .before .quotient-from .ensures) (field _ (pre .0 .0) .over-in _ _)), omega arith)
+add-times-requires c κs =
+    let pre = c .before .before .before .before .before .before .before .before .before .pre in
+    ((pre .0 .0, pre .0 .1, rw (c .before .quotient-from .ensures) (field _ (pre .0 .0) .over-in _ _)), omega arith)
 
 same-length : tie.Need-same-length
 same-length c = search needs
 
 returns-3 : tie.Need-returns-3
-returns-3 c = let pre = c .before .before .before .before .before .before .before .before .before .before .before .before .pre in mixed-only _ _ _ _ _ _ _ (c .before .before .before .before .before .before .before .before .before .if1 .left) (c .before .before .before .before .before .before .before .if2 .left) (pre .1 .1 .0) (pre .1 .1 .1) (c .before .before .before .before .quotient-from .ensures) (c .before .before .add-times .ensures)
+returns-3 c =
+    let added = c .before .before in
+    let divided = added .before .before in
+    let value = divided .before .before .before in
+    let other = value .before .before in
+    let pre = other .before .before .before .pre in
+    mixed-only _ _ _ _ _ _ _ (other .if1 .left) (value .if2 .left) (pre .1 .1 .0) (pre .1 .1 .1) (divided .quotient-from .ensures) (added .add-times .ensures)
 
 pub mix-line-spec : {M : Type 1} → statement M
 mix-line-spec =

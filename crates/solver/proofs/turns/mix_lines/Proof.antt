@@ -44,13 +44,17 @@ loop-less : tie.Need-loop-less Inv-loop μ-loop
 loop-less c = search needs
 
 loop-again : tie.Need-loop-again Inv-loop μ-loop
-loop-again c = (omega (arith, c .before .before .before .before .loop-test .taken), begun-more _ _ _ _ _ (c .before .before .before .before .before .loop .inv .1) (c .before .before .mix-line .ensures))
+loop-again c =
+    let turn = c .before .before .before .before .before in
+    (omega (arith, c .before .before .before .before .loop-test .taken), begun-more _ _ _ _ _ (turn .loop .inv .1) (c .before .before .mix-line .ensures))
 
 same-length : tie.Need-same-length Inv-loop μ-loop
 same-length c = search needs
 
 returns : tie.Need-returns Inv-loop μ-loop
-returns c = let whole : c .before .loop .j ≡ c .before .before .before .before .args .lines = omega arith in rw (← whole) (c .before .loop .inv .1 .begun)
+returns c =
+    let whole : c .before .loop .j ≡ c .before .before .before .before .args .lines = omega arith in
+    rw (← whole) (c .before .loop .inv .1 .begun)
 
 pub mix-lines-spec : {M : Type 1} → statement M
 mix-lines-spec =

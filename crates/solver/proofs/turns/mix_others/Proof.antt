@@ -42,19 +42,30 @@ array-share-prefix-w : tie.Need-array-share-prefix-w
 array-share-prefix-w c = search needs
 
 slice-aggregate-mix-lines : tie.Need-slice-aggregate-mix-lines
-slice-aggregate-mix-lines c = sym (length-take-le (c .before .before .before .before .before .before .before .args .n) (c .before .before .store .last .1 .0) (omega (arith, c .before .before .store .kept .1 .0, c .before .before .before .before .before .before .before .pre .1 .1)))
+slice-aggregate-mix-lines c =
+    let stored = c .before .before in
+    let start = stored .before .before .before .before .before in
+    sym (length-take-le (start .args .n) (stored .store .last .1 .0) (omega (arith, stored .store .kept .1 .0, start .pre .1 .1)))
 
 mix-lines-requires : tie.Need-mix-lines-requires
-mix-lines-requires c κs = let size = length-take-le (c .before .before .before .before .before .before .before .before .args .n) (c .before .before .before .store .last .1 .0) (omega (arith, c .before .before .before .store .kept .1 .0, c .before .before .before .before .before .before .before .before .pre .1 .1)) in
-    (c .before .before .before .before .before .before .before .before .pre .0, (c .before .before .before .before .before .before .before .before .pre .1 .0, (omega (arith, c .before .before .before .before .before .before .before .before .pre .1 .1), c .before .before .before .before .before .before .before .before .pre .1 .1 .1)))
+mix-lines-requires c κs =
+    let stored = c .before .before .before in
+    let start = stored .before .before .before .before .before in
+    let size = length-take-le (start .args .n) (stored .store .last .1 .0) (omega (arith, stored .store .kept .1 .0, start .pre .1 .1)) in
+    (start .pre .0, (start .pre .1 .0, (omega (arith, start .pre .1 .1), start .pre .1 .1 .1)))
 
 same-length : tie.Need-same-length
 same-length c = search needs
 
 returns : tie.Need-returns
-returns c = let start = c .before .before .before .before .before .before .before .before .before .before .before in
-    let copy = copied (start .args .p) (start .args .at) (start .args .n) (start .args .space .now) _ (start .pre .1 .1 .0) (omega (arith, start .pre .1)) (omega (arith, start .pre .1)) (c .before .before .before .before .before .before .store .ensures) in
-    rw copy at (c .before .before .mix-lines .ensures)
+returns c =
+    let mixed = c .before .before in
+    let stored = mixed .before .before .before .before in
+    let start = stored .before .before .before .before .before in
+    let copy =
+    copied (start .args .p) (start .args .at) (start .args .n) (start .args .space .now) _ (start .pre .1 .1 .0) (omega (arith, start .pre .1))
+    (omega (arith, start .pre .1)) (stored .store .ensures) in
+    rw copy at (mixed .mix-lines .ensures)
 
 pub mix-others-spec : {M : Type 1} → statement M
 mix-others-spec =

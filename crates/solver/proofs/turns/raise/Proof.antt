@@ -33,8 +33,11 @@ same-length : tie.Need-same-length
 same-length c = search needs
 
 returns : tie.Need-returns
-returns c = let start = c .before .before .before .before .before .before .before .before .before .before in
-    raised-only _ (start .pre .0 .0) _ _ _ _ _ _ (start .pre .1 .0 .0) (start .pre .1 .0 .2) (c .before .before .before .before .before .before .multiply .ensures) (c .before .before .linear .ensures)
+returns c =
+    let located = c .before .before in
+    let valued = located .before .before .before .before in
+    let pre = valued .before .before .before .before .pre in
+    raised-only _ (pre .0 .0) _ _ _ _ _ _ (pre .1 .0 .0) (pre .1 .0 .2) (valued .multiply .ensures) (located .linear .ensures)
 
 pub raise-spec : {M : Type 1} → statement M
 raise-spec =

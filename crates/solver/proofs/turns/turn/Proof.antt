@@ -45,17 +45,19 @@ add-raise-2 : tie.Need-add-raise-2
 add-raise-2 c = search needs
 
 raise-requires : tie.Need-raise-requires
-raise-requires c κs = let start = c .before .before .before .before .before .before .before .before .before in
+raise-requires c κs =
+    let start = c .before .before .before .before .before .before .before .before .before in
     let pre = start .pre in
     let points = start .args .points .now in
     let a = start .args .i + 1 in
     let mixes = c .before .before .before .before .before .mix-others .ensures in
     let left : length (drop a points) ≡ length points - a = length-drop a points in
+    let later = between-in _ _ _ _ _ a (length (drop a points)) (pre .1 .0 .3) (omega (arith, pre .1 .0)) mixes (rw left (pre .1 .1 .2)) in
     rw (behind-all points a) (
       (pre .0 .0, pre .0 .1, symbol-at _ points (start .args .i) (pre .0 .2) (pre .1 .0 .0)),
       (
         (omega (arith, pre .1 .0), omega (arith, pre .1 .0), omega (arith, pre .1 .0, mixes .long)),
-        (behind-in _ points a (pre .0 .2), between-in _ _ _ _ _ a (length (drop a points)) (pre .1 .0 .3) (omega (arith, pre .1 .0)) mixes (rw left (pre .1 .1 .2))),
+        (behind-in _ points a (pre .0 .2), later),
       ),
     )
 
@@ -63,8 +65,15 @@ same-length : tie.Need-same-length
 same-length c = search needs
 
 returns : tie.Need-returns
-returns c = let start = c .before .before .before .before .before .before .before .before .before .before .before .before in
-    record { between = _; mixes = c .before .before .before .before .before .before .before .before .mix-others .ensures; raises = rw (behind-all (start .args .points .now) (start .args .i + 1)) at (c .before .before .raise .ensures) }
+returns c =
+    let raised = c .before .before in
+    let mixed = raised .before .before .before .before .before .before in
+    let start = mixed .before .before .before .before in
+    record {
+      between = _;
+      mixes = mixed .mix-others .ensures;
+      raises = rw (behind-all (start .args .points .now) (start .args .i + 1)) at (raised .raise .ensures);
+    }
 
 pub turn-spec : {M : Type 1} → statement M
 turn-spec =
