@@ -12,24 +12,31 @@ use Rattle.mark.proofs.encode.Tie as tie
 abbrev code : tie.Start → Code
 code s = codeOf (s .args .degree) (s .args .points .now) (s .args .lengths .now)
 
--- no check applies
-passes : (c : tie.Else1) → 0 ≡ first (encodeChecks (code (c .before .before .before .before .before .before)) (c .before .before .before .before .before .before .args .message .now) (c .before .before .before .before .before .before .args .array .now))
-passes c = sym (c .if1 .left) ∙ c .before .encode-refusal .ensures (c .before .before .before .before .before .before .args .array .now) refl
+-- the refusal is the number of the first check that applies
+answered : (c : tie.After-encode-refusal)
+    → let start = c .before .before .before .before .before in
+    c .encode-refusal .result ≡ first (encodeChecks (code start) (start .args .message .now) (start .args .array .now))
+answered c = c .encode-refusal .ensures (c .before .before .before .before .before .args .array .now) refl
 
 encode-refusal-requires : tie.Need-encode-refusal-requires
 encode-refusal-requires c κs = search needs
 
 returns : tie.Need-returns
-returns c = encode-refuses (code (c .before .before .before .before .before .before)) (c .before .before .before .before .before .before .args .message .now) (c .before .before .before .before .before .before .args .array .now) (c .before .encode-refusal .ensures (c .before .before .before .before .before .before .args .array .now) refl) (c .if1 .taken)
+returns c =
+    let start = c .before .before .before .before .before .before in
+    encode-refuses (code start) (start .args .message .now) (start .args .array .now) (answered (c .before)) (c .if1 .taken)
 
 write-array-requires : tie.Need-write-array-requires
-write-array-requires c κs = passes (c .before)
+write-array-requires c κs = sym (c .before .if1 .left) ∙ answered (c .before .before)
 
 same-length : tie.Need-same-length
 same-length c = search needs
 
 returns-2 : tie.Need-returns-2
-returns-2 c = encodes (code (c .before .before .before .before .before .before .before .before .before .before)) (c .before .before .before .before .before .before .before .before .before .before .args .message .now) (c .before .before .before .before .before .before .before .before .before .before .args .array .now) (passes (c .before .before .before .before)) (c .before .before .write-array .ensures)
+returns-2 c =
+    let start = c .before .before .before .before .before .before .before .before .before .before in
+    let passes = sym (c .before .before .before .before .if1 .left) ∙ answered (c .before .before .before .before .before) in
+    encodes (code start) (start .args .message .now) (start .args .array .now) passes (c .before .before .write-array .ensures)
 
 pub encode-spec : {M : Type 1} → statement M
 encode-spec =

@@ -12,30 +12,42 @@ use Rattle.mark.proofs.read.Tie as tie
 abbrev code : tie.Start → Code
 code s = codeOf (s .args .degree) (s .args .points .now) (s .args .lengths .now)
 
--- no check applies
-passes : (c : tie.Else1) → 0 ≡ first (readChecks (code (c .before .before .before .before .before .before)) (c .before .before .before .before .before .before .args .array .now) (c .before .before .before .before .before .before .args .message .now))
-passes c = sym (c .if1 .left) ∙ c .before .read-refusal .ensures (c .before .before .before .before .before .before .args .message .now) refl
+-- the refusal is the number of the first check that applies
+answered : (c : tie.After-read-refusal)
+    → let start = c .before .before .before .before .before in
+    c .read-refusal .result ≡ first (readChecks (code start) (start .args .array .now) (start .args .message .now))
+answered c = c .read-refusal .ensures (c .before .before .before .before .before .args .message .now) refl
 
 read-refusal-requires : tie.Need-read-refusal-requires
 read-refusal-requires c κs = search needs
 
 returns : tie.Need-returns
-returns c = read-refuses (code (c .before .before .before .before .before .before)) (c .before .before .before .before .before .before .args .array .now) (c .before .before .before .before .before .before .args .message .now) (c .before .read-refusal .ensures (c .before .before .before .before .before .before .args .message .now) refl) (c .if1 .taken)
+returns c =
+    let start = c .before .before .before .before .before .before in
+    read-refuses (code start) (start .args .array .now) (start .args .message .now) (answered (c .before)) (c .if1 .taken)
 
 write-message-requires : tie.Need-write-message-requires
-write-message-requires c κs = passes (c .before)
+write-message-requires c κs = sym (c .before .if1 .left) ∙ answered (c .before .before)
 
 same-length : tie.Need-same-length
 same-length c = search needs
 
 returns-2 : tie.Need-returns-2
-returns-2 c = let done = c .before .before .before .write-message .ensures .0 (c .if2 .taken) in reads-message (code (c .before .before .before .before .before .before .before .before .before .before .before)) (c .before .before .before .before .before .before .before .before .before .before .before .args .array .now) (c .before .before .before .before .before .before .before .before .before .before .before .args .message .now) (passes (c .before .before .before .before .before)) (done .0) (done .1)
+returns-2 c =
+    let start = c .before .before .before .before .before .before .before .before .before .before .before in
+    let passes = sym (c .before .before .before .before .before .if1 .left) ∙ answered (c .before .before .before .before .before .before) in
+    let (message, codes) = c .before .before .before .write-message .ensures .0 (c .if2 .taken) in
+    reads-message (code start) (start .args .array .now) (start .args .message .now) passes message codes
 
 same-length-2 : tie.Need-same-length-2
 same-length-2 c = search needs
 
 returns-3 : tie.Need-returns-3
-returns-3 c = let none = c .before .before .before .write-message .ensures .1 (c .if2 .left) in reads-none (code (c .before .before .before .before .before .before .before .before .before .before .before)) (c .before .before .before .before .before .before .before .before .before .before .before .args .array .now) (c .before .before .before .before .before .before .before .before .before .before .before .args .message .now) (passes (c .before .before .before .before .before)) (none .0) (none .1)
+returns-3 c =
+    let start = c .before .before .before .before .before .before .before .before .before .before .before in
+    let passes = sym (c .before .before .before .before .before .if1 .left) ∙ answered (c .before .before .before .before .before .before) in
+    let (none, kept) = c .before .before .before .write-message .ensures .1 (c .if2 .left) in
+    reads-none (code start) (start .args .array .now) (start .args .message .now) passes none kept
 
 pub read-spec : {M : Type 1} → statement M
 read-spec =

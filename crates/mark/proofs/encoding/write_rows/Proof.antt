@@ -18,7 +18,11 @@ use Rattle.mark.proofs.encoding.write_rows.Statement.{statement}
 use Rattle.mark.proofs.encoding.write_rows.Tie as tie
 
 abbrev Inv-loop : tie.InvT-loop
-Inv-loop table degree lengths points message s₀ from₀ at₀ l₀ s from at l = Before (codeOf degree points lengths) l from at × (length s ≡ length s₀) × (lay at (encodedRows (gf degree) points (drop l lengths) (drop from message)) s ≡ lay 0 (encodedRows (gf degree) points lengths message) s₀)
+Inv-loop table degree lengths points message s₀ from₀ at₀ l₀ s from at l =
+    Before (codeOf degree points lengths) l from at
+    × (length s ≡ length s₀)
+    × (lay at (encodedRows (gf degree) points (drop l lengths) (drop from message)) s
+    ≡ lay 0 (encodedRows (gf degree) points lengths message) s₀)
 
 abbrev μ-loop : tie.MeasureT-loop
 μ-loop table degree lengths points message s₀ from₀ at₀ l₀ s from at l = length lengths - l
@@ -26,11 +30,14 @@ abbrev μ-loop : tie.MeasureT-loop
 abbrev code : tie.Start Inv-loop μ-loop → Code
 code s = codeOf (s .args .degree) (s .args .points .now) (s .args .lengths .now)
 
+abbrev entry : tie.After-wide Inv-loop μ-loop → tie.Start Inv-loop μ-loop
+entry c = c .before .before .before .before .before .before .before .before
+
 -- the row of a turn, and its places
 turn : (c : tie.After-wide Inv-loop μ-loop)
-    → Place (code (c .before .before .before .before .before .before .before .before)) (c .before .before .before .loop .l) (c .before .before .before .loop .from) (c .before .before .before .loop .at) (c .wide .result)
+    → let own = c .before .before .before .loop in Place (code (entry c)) (own .l) (own .from) (own .at) (c .wide .result)
 turn c = record {
-  counts = counts-of (code (c .before .before .before .before .before .before .before .before)) (c .before .before .before .before .before .before .before .before .pre .0) refl;
+  counts = counts-of (code (entry c)) (entry c .pre .0) refl;
   before = c .before .before .before .loop .inv .0;
   here = c .before .before .loop-test .taken;
   count = c .wide .ensures;
@@ -55,23 +62,25 @@ part-values-start : tie.Need-part-values-start Inv-loop μ-loop
 part-values-start c = search needs
 
 part-values-end : tie.Need-part-values-end Inv-loop μ-loop
-part-values-end c = let b = bounds (turn c) in omega (arith, c .before .before .before .before .before .before .before .before .pre .1 .0 .1 .count)
+part-values-end c = let b = bounds (turn c) in omega (arith, entry c .pre .1 .0 .1 .count)
 
 values-requires : tie.Need-values-requires Inv-loop μ-loop
 values-requires c κs =
-    let start = c .before .before .before .before .before .before .before .before .before .before in
+    let start = entry (c .before .before) in
+    let own = c .before .before .before .before .before .loop in
     let here = turn (c .before .before) in
     let b = bounds here in
-    let p : ℕ = c .before .before .before .before .before .loop .from in
+    let p : ℕ = own .from in
     let k : ℕ = c .before .before .wide .result in
     let m : List ℕ = start .args .message .now in
     let e : p + k - p ≡ k = omega arith in
-    let size : length (take k (drop p m)) ≡ k = length-take-le k (drop p m) (omega (arith, length-drop p m, start .pre .1 .0 .1 .count)) in
+    let size : length (take k (drop p m)) ≡ k =
+    length-take-le k (drop p m) (omega (arith, length-drop p m, start .pre .1 .0 .1 .count)) in
     rw e (
       (here .counts .degree, start .pre .1 .1 .0),
       (
         (start .pre .1 .0 .0 .symbols, all-take _ k (drop p m) (all-drop _ p m (start .pre .1 .0 .1 .symbols))),
-        (omega arith, omega arith, omega (arith, c .before .before .before .before .before .loop .inv .1, start .pre .1 .1 .1)),
+        (omega arith, omega arith, omega (arith, own .inv .1, start .pre .1 .1 .1)),
       ),
     )
 
@@ -89,15 +98,18 @@ loop-less c = search needs
 
 loop-again : tie.Need-loop-again Inv-loop μ-loop
 loop-again c =
-    let start = c .before .before .before .before .before .before .before .before .before .before .before .before .before in
     let here = turn (c .before .before .before .before .before) in
-    let at-turn = c .before .before .before .before .before .before .before .before .loop in
-    let p : ℕ = at-turn .from in
+    let start = entry (c .before .before .before .before .before) in
+    let own = c .before .before .before .before .before .before .before .before .loop in
+    let p : ℕ = own .from in
     let k : ℕ = c .before .before .before .before .before .wide .result in
     let e : p + k - p ≡ k = omega arith in (
       next-place here,
-      c .before .before .values .kept .1 .1 .1 .1 .0 ∙ at-turn .inv .1,
-      encoded-more here (start .args .message .now) (at-turn .s) (omega (arith, bounds here .symbols, at-turn .inv .1, start .pre .1 .1 .1)) (rw e at (c .before .before .values .ensures)) ∙ at-turn .inv .2,
+      c .before .before .values .kept .1 .1 .1 .1 .0 ∙ own .inv .1,
+      encoded-more here (start .args .message .now) (own .s)
+          (omega (arith, bounds here .symbols, own .inv .1, start .pre .1 .1 .1))
+          (rw e at (c .before .before .values .ensures))
+          ∙ own .inv .2,
     )
 
 same-length : tie.Need-same-length Inv-loop μ-loop

@@ -20,8 +20,9 @@ abbrev μ-loop : tie.MeasureT-loop
 
 -- in a turn the symbols from i on are zero exactly when the one at i is, and those behind it
 cut : (c : tie.In-loop Inv-loop μ-loop)
-    → All (λ (a : ℕ). a ≡ 0) (drop (c .before .loop .i) (c .before .before .args .s .now))
-    ↔ ((getD (c .before .before .args .s .now) (c .before .loop .i) 0 ≡ 0) × All (λ (a : ℕ). a ≡ 0) (drop (c .before .loop .i + 1) (c .before .before .args .s .now)))
+    → let s = c .before .before .args .s .now in
+    let i = c .before .loop .i in
+    All (λ (a : ℕ). a ≡ 0) (drop i s) ↔ ((getD s i 0 ≡ 0) × All (λ (a : ℕ). a ≡ 0) (drop (i + 1) s))
 cut c = all-cut (λ (a : ℕ). a ≡ 0) (c .before .before .args .s .now) (c .before .loop .i) 0 (omega arith)
 
 loop-holds : tie.Need-loop-holds Inv-loop μ-loop

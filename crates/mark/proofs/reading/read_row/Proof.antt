@@ -30,7 +30,10 @@ reduce-requires c κs =
       start .pre .0,
       (
         (start .pre .1 .0 .0, start .pre .1 .0 .1, omega (arith, start .pre .1 .0 .1)),
-        symbols-lay (start .args .degree) 0 (start .args .row .now) (replicate 96 0) (c .before .before .store .ensures) (start .pre .1 .1 .0) (omega (arith, start .pre .1 .0 .1)) (start .pre .1 .1 .1),
+        symbols-lay (start .args .degree) 0 (start .args .row .now) (replicate 96 0) (c .before .before .store .ensures)
+            (start .pre .1 .1 .0)
+            (omega (arith, start .pre .1 .0 .1))
+            (start .pre .1 .1 .1),
       ),
     )
 
@@ -43,8 +46,11 @@ slice-aggregate-coefficients c = sym (length-take-le _ _ (array-share-prefix-hel
 coefficients-requires : tie.Need-coefficients-requires
 coefficients-requires c κs =
     let start = c .before .before .before .before .before .before .before .before .before .before .before in
-    let size : length (take (start .args .k) (c .before .before .before .reduce .last .1 .1 .1 .1 .0)) ≡ start .args .k = length-take-le _ _ (array-share-prefix-held (c .before .before)) in
-    ((start .pre .0 .0, start .pre .0 .1, start .pre .0 .2 .symbols), (omega (arith, start .pre .1 .0), omega (arith, start .pre .1 .0), omega (arith, start .pre .1 .0)))
+    let size : length (take (start .args .k) (c .before .before .before .reduce .last .1 .1 .1 .1 .0)) ≡ start .args .k =
+    length-take-le _ _ (array-share-prefix-held (c .before .before)) in (
+      (start .pre .0 .0, start .pre .0 .1, start .pre .0 .2 .symbols),
+      (omega (arith, start .pre .1 .0), omega (arith, start .pre .1 .0), omega (arith, start .pre .1 .0)),
+    )
 
 sub-all-zero : tie.Need-sub-all-zero
 sub-all-zero c = search needs
@@ -70,9 +76,13 @@ returns c =
     let stored = c .before .before .before .before .before .before .before .before .before .before .before .before .store .ensures in
     let reduced = c .before .before .before .before .before .before .before .before .before .reduce .ensures in
     let xs = start .args .points .now in
-    let row = start .args .row .now in (
-      rw (reduced-rest d 𝓕 (start .args .k) xs row (replicate 96 0) (p .1 .0) (p .0 .1) (p .0 .0) stored reduced) at (c .all-zero .ensures),
-      c .before .before .before .before .before .coefficients .ensures ∙ ap (λ (v : List ℕ). lay (start .args .at) v (start .args .s .now)) (reduced-front d 𝓕 (start .args .k) xs row (replicate 96 0) (p .1 .0) (p .0 .1) (p .0 .0) stored reduced),
+    let row = start .args .row .now in
+    let k = start .args .k in
+    let rest = reduced-rest d 𝓕 k xs row (replicate 96 0) (p .1 .0) (p .0 .1) (p .0 .0) stored reduced in
+    let front = reduced-front d 𝓕 k xs row (replicate 96 0) (p .1 .0) (p .0 .1) (p .0 .0) stored reduced in (
+      rw rest at (c .all-zero .ensures),
+      c .before .before .before .before .before .coefficients .ensures
+          ∙ ap (λ (v : List ℕ). lay (start .args .at) v (start .args .s .now)) front,
     )
 
 pub read-row-spec : {M : Type 1} → statement M

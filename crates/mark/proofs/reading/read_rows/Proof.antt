@@ -10,7 +10,6 @@ use lib.ListN.{length, take, drop, length-drop, drop-of-length-le}
 use lib.Seq.{length-take-le}
 use Rattle.patch.specs.Parts.{lay}
 use Rattle.patch.proofs.Parts.{lay-none}
-use borrow.Author.Tests.{not-true, not-false}
 use Rattle.field.specs.Arithmetic.{gf}
 use Rattle.field.proofs.Instance.{field}
 use Rattle.poly.specs.Poly.{Zero}
@@ -19,14 +18,19 @@ use Rattle.mark.specs.Code.{Code, codeOf}
 use Rattle.mark.proofs.Parts.{all-take, all-drop}
 use Rattle.mark.proofs.Proper.{Proper}
 use Rattle.mark.proofs.Passed.{Counts, counts-of}
-use Rattle.mark.proofs.Messages.{messageRows, ReducedRows, messageOf, array-message, its-message, code-array-exactly}
+use Rattle.mark.proofs.Messages.{messageRows, ReducedRows, messageOf, Reduced, array-message, its-message, code-array-exactly}
 use Rattle.mark.proofs.Rows.{Before, Place, first-place, next-place, bounds, message-more, reduced-more}
+use borrow.Author.Tests.{not-true, not-false}
 use borrow.Author.Needs.{needs}
 use Rattle.mark.proofs.reading.read_rows.Statement.{statement}
 use Rattle.mark.proofs.reading.read_rows.Tie as tie
 
 abbrev Inv-loop : tie.InvT-loop
-Inv-loop table degree lengths points array s₀ from₀ at₀ l₀ s from at l = Before (codeOf degree points lengths) l at from × (length s ≡ length s₀) × (lay at (messageRows (gf degree) points (drop l lengths) (drop from array)) s ≡ lay 0 (messageRows (gf degree) points lengths array) s₀) × (ReducedRows (gf degree) points (drop l lengths) (drop from array) ↔ ReducedRows (gf degree) points lengths array)
+Inv-loop table degree lengths points array s₀ from₀ at₀ l₀ s from at l =
+    Before (codeOf degree points lengths) l at from
+    × (length s ≡ length s₀)
+    × (lay at (messageRows (gf degree) points (drop l lengths) (drop from array)) s ≡ lay 0 (messageRows (gf degree) points lengths array) s₀)
+    × (ReducedRows (gf degree) points (drop l lengths) (drop from array) ↔ ReducedRows (gf degree) points lengths array)
 
 abbrev μ-loop : tie.MeasureT-loop
 μ-loop table degree lengths points array s₀ from₀ at₀ l₀ s from at l = length lengths - l
@@ -45,30 +49,38 @@ proper c = record {
   lengths = counts c .lengths;
 }
 
+abbrev entry : tie.After-wide Inv-loop μ-loop → tie.Start Inv-loop μ-loop
+entry c = c .before .before .before .before .before .before .before .before
+
 -- the row of a turn, and its places
 turn : (c : tie.After-wide Inv-loop μ-loop)
-    → Place (code (c .before .before .before .before .before .before .before .before)) (c .before .before .before .loop .l) (c .before .before .before .loop .at) (c .before .before .before .loop .from) (c .wide .result)
+    → let own = c .before .before .before .loop in Place (code (entry c)) (own .l) (own .at) (own .from) (c .wide .result)
 turn c = record {
-  counts = counts (c .before .before .before .before .before .before .before .before);
+  counts = counts (entry c);
   before = c .before .before .before .loop .inv .0;
   here = c .before .before .loop-test .taken;
   count = c .wide .ensures;
 }
 
-abbrev rowOf : tie.After-wide Inv-loop μ-loop → List ℕ
-rowOf c = take (length (c .before .before .before .before .before .before .before .before .args .points .now)) (drop (c .before .before .before .loop .from) (c .before .before .before .before .before .before .before .before .args .array .now))
-
 -- the values of the row, reduced
 abbrev reducedOf : tie.After-wide Inv-loop μ-loop → List ℕ
-reducedOf c = reduce (gf (c .before .before .before .before .before .before .before .before .args .degree)) (c .wide .result) (c .before .before .before .before .before .before .before .before .args .points .now) (rowOf c)
+reducedOf c =
+    let given = entry c .args in
+    let row = take (length (given .points .now)) (drop (c .before .before .before .loop .from) (given .array .now)) in
+    reduce (gf (given .degree)) (c .wide .result) (given .points .now) row
 
 -- what was said of the row
 said : (c : tie.After-read-row Inv-loop μ-loop)
-    → ((c .read-row .result ≡ true) ↔ Zero (gf (c .before .before .before .before .before .before .before .before .before .before .before .args .degree)) (drop (c .before .before .before .wide .result) (reducedOf (c .before .before .before))))
-    × (c .read-row .last .1 .1 .1 .1 .1 .0 ≡ lay (c .before .before .before .before .before .before .loop .at) (fromNewton (gf (c .before .before .before .before .before .before .before .before .before .before .before .args .degree)) (c .before .before .before .wide .result) (c .before .before .before .before .before .before .before .before .before .before .before .args .points .now) (reducedOf (c .before .before .before))) (c .before .before .before .before .before .before .loop .s))
+    → let here = c .before .before .before in
+    let given = entry here .args in
+    let own = here .before .before .before .loop in
+    ((c .read-row .result ≡ true) ↔ Zero (gf (given .degree)) (drop (here .wide .result) (reducedOf here)))
+    × (c .read-row .last .1 .1 .1 .1 .1 .0
+    ≡ lay (own .at) (fromNewton (gf (given .degree)) (here .wide .result) (given .points .now) (reducedOf here)) (own .s))
 said c =
-    let q : ℕ = c .before .before .before .before .before .before .loop .from in
-    let n : ℕ = length (c .before .before .before .before .before .before .before .before .before .before .before .args .points .now) in
+    let here = c .before .before .before in
+    let q : ℕ = here .before .before .before .loop .from in
+    let n : ℕ = length (entry here .args .points .now) in
     let e : q + n - q ≡ n = omega arith in
     rw e at (c .read-row .ensures)
 
@@ -91,22 +103,26 @@ part-read-row-start : tie.Need-part-read-row-start Inv-loop μ-loop
 part-read-row-start c = search needs
 
 part-read-row-end : tie.Need-part-read-row-end Inv-loop μ-loop
-part-read-row-end c = let b = bounds (turn c) in omega (arith, c .before .before .before .before .before .before .before .before .pre .1 .0 .1 .count)
+part-read-row-end c = let b = bounds (turn c) in omega (arith, entry c .pre .1 .0 .1 .count)
 
 read-row-requires : tie.Need-read-row-requires Inv-loop μ-loop
 read-row-requires c κs =
-    let start = c .before .before .before .before .before .before .before .before .before .before in
+    let start = entry (c .before .before) in
+    let own = c .before .before .before .before .before .loop in
     let here = turn (c .before .before) in
     let b = bounds here in
-    let q : ℕ = c .before .before .before .before .before .loop .from in
+    let q : ℕ = own .from in
     let n : ℕ = length (start .args .points .now) in
     let a : List ℕ = start .args .array .now in
     let e : q + n - q ≡ n = omega arith in
     rw e (
       (here .counts .degree, start .pre .1 .1 .0, start .pre .1 .0 .0),
       (
-        (b .most, b .most-columns, omega (arith, c .before .before .before .before .before .loop .inv .1, start .pre .1 .1 .1)),
-        (length-take-le n (drop q a) (omega (arith, length-drop q a, start .pre .1 .0 .1 .count)), all-take _ n (drop q a) (all-drop _ q a (start .pre .1 .0 .1 .symbols))),
+        (b .most, b .most-columns, omega (arith, own .inv .1, start .pre .1 .1 .1)),
+        (
+          length-take-le n (drop q a) (omega (arith, length-drop q a, start .pre .1 .0 .1 .count)),
+          all-take _ n (drop q a) (all-drop _ q a (start .pre .1 .0 .1 .symbols)),
+        ),
       ),
     )
 
@@ -115,11 +131,13 @@ same-length c = search needs
 
 returns : tie.Need-returns Inv-loop μ-loop
 returns c =
-    let start = c .before .before .before .before .before .before .before .before .before .before .before .before .before .before in
     let here = turn (c .before .before .before .before .before .before) in
-    let not-zero = not-true _ (c .if1 .taken) in (
+    let start = entry (c .before .before .before .before .before .before) in
+    let own = c .before .before .before .before .before .before .before .before .before .loop in
+    let rest = reduced-more here (start .args .array .now) in
+    let reduced = code-array-exactly (proper start) (start .pre .1 .0 .1) in (
       λ e. absurd (true≢false (sym e)),
-      λ e h. true≢false (sym (said (c .before .before .before) .0 .1 (reduced-more here (start .args .array .now) .0 (c .before .before .before .before .before .before .before .before .before .loop .inv .3 .1 (code-array-exactly (proper start) (start .pre .1 .0 .1) .0 h)) .0)) ∙ not-zero),
+      λ e h. true≢false (sym (said (c .before .before .before) .0 .1 (rest .0 (own .inv .3 .1 (reduced .0 h)) .0)) ∙ not-true _ (c .if1 .taken)),
     )
 
 add-from : tie.Need-add-from Inv-loop μ-loop
@@ -136,15 +154,22 @@ loop-less c = search needs
 
 loop-again : tie.Need-loop-again Inv-loop μ-loop
 loop-again c =
-    let start = c .before .before .before .before .before .before .before .before .before .before .before .before .before .before in
     let here = turn (c .before .before .before .before .before .before) in
-    let at-turn = c .before .before .before .before .before .before .before .before .before .loop in
+    let start = entry (c .before .before .before .before .before .before) in
+    let own = c .before .before .before .before .before .before .before .before .before .loop in
     let row = said (c .before .before .before) in
-    let a = start .args .array .now in (
+    let a = start .args .array .now in
+    let rest = reduced-more here a in (
       next-place here,
-      c .before .before .before .read-row .kept .1 .1 .1 .1 .1 .0 ∙ at-turn .inv .1,
-      message-more here (proper start) a (start .pre .1 .0 .1 .count) (at-turn .s) (omega (arith, bounds here .coefficients, at-turn .inv .1, start .pre .1 .1 .1)) (row .1) ∙ at-turn .inv .2,
-      (λ z. at-turn .inv .3 .0 (reduced-more here a .1 (row .0 .0 (not-false _ (c .if1 .left)), z)), λ z. reduced-more here a .0 (at-turn .inv .3 .1 z) .1),
+      c .before .before .before .read-row .kept .1 .1 .1 .1 .1 .0 ∙ own .inv .1,
+      message-more here (proper start) a (start .pre .1 .0 .1 .count) (own .s)
+          (omega (arith, bounds here .coefficients, own .inv .1, start .pre .1 .1 .1))
+          (row .1)
+          ∙ own .inv .2,
+      (
+        λ z. own .inv .3 .0 (rest .1 (row .0 .0 (not-false _ (c .if1 .left)), z)),
+        λ z. rest .0 (own .inv .3 .1 z) .1,
+      ),
     )
 
 same-length-2 : tie.Need-same-length-2 Inv-loop μ-loop
@@ -157,8 +182,13 @@ returns-2 c =
     let a = start .args .array .now in
     let end = c .before .loop .inv in
     let arr = start .pre .1 .0 .1 in
-    let reduced : ReducedRows (gf (start .args .degree)) (start .args .points .now) (start .args .lengths .now) a = end .3 .0 (rw (drop-of-length-le _ (c .loop-test .left)) tt) in (
-      λ e. (messageOf (code start) a, array-message (proper start) arr, its-message (proper start) arr reduced, sym (lay-none _ _) ∙ (rw (drop-of-length-le _ (c .loop-test .left)) at (end .2))),
+    let reduced : Reduced (code start) a = end .3 .0 (rw (drop-of-length-le _ (c .loop-test .left)) tt) in (
+      λ e. (
+        messageOf (code start) a,
+        array-message (proper start) arr,
+        its-message (proper start) arr reduced,
+        sym (lay-none _ _) ∙ (rw (drop-of-length-le _ (c .loop-test .left)) at (end .2)),
+      ),
       λ e. absurd (true≢false e),
     )
 

@@ -24,9 +24,14 @@ passed c = reading (code c) (c .args .array .now) (c .args .message .now) (c .pr
 
 -- what was said of the array, at the caller's points
 said : (c : tie.After-read-rows)
-    → (c .read-rows .result ≡ true → (m : List ℕ) × IsMessage (code (c .before .before .before .before .before .before .before .before .before .before .before .before)) m × (encoded (code (c .before .before .before .before .before .before .before .before .before .before .before .before)) m ≡ c .before .before .before .before .before .before .before .before .before .before .before .before .args .array .now) × (c .read-rows .last .1 .1 .1 .1 .1 .0 ≡ lay 0 m (replicate 384 0)))
-    × (c .read-rows .result ≡ false → CodeArray (code (c .before .before .before .before .before .before .before .before .before .before .before .before)) (c .before .before .before .before .before .before .before .before .before .before .before .before .args .array .now) → ⊥)
-said c = rw (copied (c .before .before .before .before .before .before .before .before .before .before .before .before .args .points .now) (replicate 96 0) (c .before .before .before .before .before .copy .ensures .1)) at (c .read-rows .ensures)
+    → let start = c .before .before .before .before .before .before .before .before .before .before .before .before in
+    let a = start .args .array .now in
+    (c .read-rows .result ≡ true
+    → (m : List ℕ) × IsMessage (code start) m × (encoded (code start) m ≡ a) × (c .read-rows .last .1 .1 .1 .1 .1 .0 ≡ lay 0 m (replicate 384 0)))
+    × (c .read-rows .result ≡ false → CodeArray (code start) a → ⊥)
+said c =
+    let start = c .before .before .before .before .before .before .before .before .before .before .before .before in
+    rw (copied (start .args .points .now) (replicate 96 0) (c .before .before .before .before .before .copy .ensures .1)) at (c .read-rows .ensures)
 
 lend-requires : tie.Need-lend-requires
 lend-requires c κs = passed (c .before .before .before .before) .counts .degree
@@ -38,7 +43,9 @@ copy-requires : tie.Need-copy-requires
 copy-requires c κs = passed (c .before .before .before .before .before .before) .counts .most-columns
 
 array-share-prefix-held : tie.Need-array-share-prefix-held
-array-share-prefix-held c = omega (arith, c .before .before .copy .kept .1 .0, passed (c .before .before .before .before .before .before .before .before .before) .counts .most-columns)
+array-share-prefix-held c =
+    let ok = passed (c .before .before .before .before .before .before .before .before .before) in
+    omega (arith, c .before .before .copy .kept .1 .0, ok .counts .most-columns)
 
 slice-aggregate-read-rows : tie.Need-slice-aggregate-read-rows
 slice-aggregate-read-rows c = sym (length-take-le _ _ (array-share-prefix-held (c .before)))
@@ -52,7 +59,10 @@ read-rows-requires c κs =
     let ok = passed start in
     rw (copied (start .args .points .now) (replicate 96 0) (c .before .before .before .before .copy .ensures .1)) (
       front-passed (codeChecks (code start)) _ tt (start .pre),
-      ((record { symbols = ok .proper .symbols; distinct = ok .proper .distinct }, ok .array), (c .before .before .before .before .before .before .lend .ensures, refl)),
+      (
+        (record { symbols = ok .proper .symbols; distinct = ok .proper .distinct }, ok .array),
+        (c .before .before .before .before .before .before .lend .ensures, refl),
+      ),
     )
 
 array-share-prefix-made : tie.Need-array-share-prefix-made
@@ -61,10 +71,13 @@ array-share-prefix-made c =
     omega (arith, c .before .before .read-rows .kept .1 .1 .1 .1 .1 .0, ok .message, ok .counts .fits, ok .counts .cells)
 
 slice-aggregate-copy-2 : tie.Need-slice-aggregate-copy-2
-slice-aggregate-copy-2 c = sym (length-take-le _ (c .before .before .before .read-rows .last .1 .1 .1 .1 .1 .0) (array-share-prefix-made (c .before)))
+slice-aggregate-copy-2 c =
+    sym (length-take-le _ (c .before .before .before .read-rows .last .1 .1 .1 .1 .1 .0) (array-share-prefix-made (c .before)))
 
 copy-requires-2 : tie.Need-copy-requires-2
-copy-requires-2 c κs = omega (arith, length-take (length (c .before .before .before .before .before .before .before .before .before .before .before .before .before .before .before .before .args .message .now)) (c .before .before .before .before .read-rows .last .1 .1 .1 .1 .1 .0))
+copy-requires-2 c κs =
+    let start = c .before .before .before .before .before .before .before .before .before .before .before .before .before .before .before .before in
+    omega (arith, length-take (length (start .args .message .now)) (c .before .before .before .before .read-rows .last .1 .1 .1 .1 .1 .0))
 
 same-length : tie.Need-same-length
 same-length c = search needs
@@ -74,9 +87,13 @@ returns c =
     let start = c .before .before .before .before .before .before .before .before .before .before .before .before .before .before .before .before .before .before .before in
     let ok = passed start in
     let old = start .args .message .now in
-    let (m, isM, codes, made) = said (c .before .before .before .before .before .before .before) .0 (c .before .before .before .before .before .if1 .taken) in
-    let is : c .before .before .copy2 .last .1 .0 ≡ m = released m (replicate 384 0) old made (isM .count ∙ sym (ok .message)) (omega (arith, isM .count, ok .counts .fits, ok .counts .cells)) (c .before .before .copy2 .ensures .1) in
-    (λ e. (rw is isM, rw is codes), λ e. absurd (true≢false (sym (c .before .before .before .before .before .if1 .taken) ∙ e)))
+    let good = c .before .before .before .before .before .if1 .taken in
+    let (m, message, codes, made) = said (c .before .before .before .before .before .before .before) .0 good in
+    let is : c .before .before .copy2 .last .1 .0 ≡ m = released m (replicate 384 0) old made
+    (message .count ∙ sym (ok .message))
+    (omega (arith, message .count, ok .counts .fits, ok .counts .cells))
+    (c .before .before .copy2 .ensures .1) in
+    (λ e. (rw is message, rw is codes), λ e. absurd (true≢false (sym good ∙ e)))
 
 returns-2 : tie.Need-returns-2
 returns-2 c = (λ e. absurd (true≢false (sym e ∙ c .if1 .left)), λ e. (said (c .before .before) .1 e, refl))
