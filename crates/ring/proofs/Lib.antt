@@ -1,0 +1,10 @@
+pub mod Numbers
+pub mod Sizes
+pub mod Rings
+pub mod Words
+pub mod Passed
+pub mod Unique
+pub mod Figures
+pub mod Carried
+pub mod Lent
+pub mod Promised

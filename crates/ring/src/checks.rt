@@ -1,0 +1,130 @@
+// The checks of the calls on rings, in order.
+ghost use mathlib.Core.Path.{_≡_};
+ghost use mathlib.Core.Bool.{false};
+ghost use mathlib.Core.List.{List, _++_};
+ghost use Prim.Native.Nat.{ℕ};
+ghost use lib.ListN.{length};
+ghost use Rattle.refusal.specs.Refusal.{first};
+ghost use Rattle.mark.specs.Code.{jointLimit, total};
+ghost use Rattle.ring.specs.Ring.{ringCode, ringLengths};
+ghost use Rattle.ring.specs.Checks.{badOrder, badSize, bufferChecks, decodeChecks, encodeChecks, readChecks, ringChecks};
+use crate::shape;
+
+// Number 10 applies, q is not 2 or 4.
+fn bad_size(q: u32) -> bool
+    ensures { λ r. ⌜ r ≡ badSize q ⌝ }
+{
+    if q == 2 {
+        return false;
+    }
+    q != 4
+}
+
+// Number 11 applies, m is not q² − 1 to q³ − 1.
+fn bad_order(q: u32, m: u32) -> bool
+    requires { ⌜ badSize q ≡ false ⌝ }
+    ensures { λ r. ⌜ r ≡ badOrder q m ⌝ }
+{
+    let n = shape::side(q);
+    refusal::outside(n * n - 1, n * n * n - 1, m as usize)
+}
+
+// The first of the checks 10 and 11 that applies, 0 where none does.
+fn ring_refusal(q: u32, m: u32) -> u8
+    ensures { λ r. ⌜ r ≡ first (ringChecks q m) ⌝ }
+{
+    if bad_size(q) {
+        return 10;
+    }
+    if bad_order(q, m) {
+        return 11;
+    }
+    0
+}
+
+// The sum of the message lengths of H(m).
+fn total(q: u32, m: u32) -> usize
+    requires { ⌜ (badSize q ≡ false) × (badOrder q m ≡ false) ⌝ }
+    ensures { λ r. ⌜ r ≡ total (ringLengths q m) ⌝ }
+{
+    let ks = shape::lengths(q, m);
+    mark::checks::total(&ks[..shape::side(q)])
+}
+
+// The joint limit of H(m).
+fn joint_limit(q: u32, m: u32) -> usize
+    requires { ⌜ (badSize q ≡ false) × (badOrder q m ≡ false) ⌝ }
+    ensures { λ r. ⌜ r ≡ jointLimit (ringCode q m) ⌝ }
+{
+    let n = shape::side(q);
+    let ks = shape::lengths(q, m);
+    let xs = shape::columns(q);
+    mark::checks::joint_limit(&ks[..n], &xs[..n * n])
+}
+
+// The first of the checks 10, 11, 5 and 7 that applies to a message and a word of these lengths, of which the symbols are the
+// input; 0 where none does.
+fn buffers_refusal(q: u32, m: u32, message: usize, word: usize, symbols: &[u8]) -> u8
+    ensures { λ r. ⌜ ((f w : List ℕ) → length f ≡ message → length w ≡ word
+        → r ≡ first (ringChecks q m ++ bufferChecks q m f w (now (symbols .entry)))) ⌝ }
+{
+    let k = ring_refusal(q, m);
+    if k != 0 {
+        return k;
+    }
+    let n = shape::side(q);
+    if (message != total(q, m)) | (word != n * n * n) {
+        return 5;
+    }
+    if refusal::some_outside_field(q, symbols) {
+        return 7;
+    }
+    0
+}
+
+// The first check of encoding that applies, 0 where none does. Of the word's buffer the checks read the length alone, its room.
+pub(crate) fn encode_refusal(q: u32, m: u32, message: &[u8], room: usize) -> u8
+    ensures { λ r. ⌜ ((w : List ℕ) → length w ≡ room → r ≡ first (encodeChecks q m (now (message .entry)) w)) ⌝ }
+{
+    buffers_refusal(q, m, message.len(), room, message)
+}
+
+// The first of the checks of reading but 9 that applies, 0 where none does. Of the message's buffer the checks read the length
+// alone, its room.
+pub(crate) fn read_refusal(q: u32, m: u32, word: &[u8], room: usize) -> u8
+    ensures { λ r. ⌜ ((f : List ℕ) → length f ≡ room → r ≡ first (readChecks q m (now (word .entry)) f)) ⌝ }
+{
+    buffers_refusal(q, m, room, word.len(), word)
+}
+
+// For decoding: the first check that applies, 0 where none does. Of the buffers for the answer, the flags and the working space
+// the checks read the lengths alone.
+pub fn decode_refusal(
+    q: u32,
+    m: u32,
+    limit: u32,
+    received: &[u8],
+    answer: usize,
+    flags: usize,
+    space: usize,
+) -> u8
+    ensures { λ r. ⌜ ((w f s : List ℕ) → length w ≡ answer → length f ≡ flags → length s ≡ space
+        → r ≡ first (decodeChecks q m limit (now (received .entry)) w f s)) ⌝ }
+{
+    let k = ring_refusal(q, m);
+    if k != 0 {
+        return k;
+    }
+    let n = shape::side(q);
+    let right = n * n * n;
+    if (received.len() != right) | (answer != right) | (flags != n * n) | (space < 49152) {
+        return 5;
+    }
+    if refusal::some_outside_field(q, received) {
+        return 7;
+    }
+    if joint_limit(q, m) < limit as usize {
+        return 8;
+    }
+    0
+}
