@@ -1,0 +1,99 @@
+-- Rows laid into longer lists, and read back.
+--
+--   lay-append, behind   two rows laid one behind the other
+--   front, tail          the front of what a row was laid over; the row from entry k on
+--   lay-all, copied      a row over a list of its length, laid or copied; copied-front, over the front of a longer one
+--   RowAt n ks l from    row l, of rows with the lengths ks and n symbols each, begins at symbol from of the array
+--   first-row, next-row  the first row; the row behind a row
+--   row-room, row-left, row-size    a row has its place; what is left from it on; how long it is
+-- Assumes nothing.
+use mathlib.Core.Path.{_≡_, refl, sym, ap, _∙_}
+use mathlib.Core.List.{List, _∷_, _++_, append-nil}
+use Prim.Native.Nat.{ℕ, zero, suc, _+_, _-_, _*_, _≤_, _<_}
+use native.Mathlib.Nat.{suc-mul}
+use native.Mathlib.Numerals.{add-one}
+use native.Mathlib.Decide.{decLt}
+use native.Mathlib.Omega.{arith}
+use lib.ListN.{length, getD, take, drop, length-append, length-drop, drop-of-length-le, List·getD-append}
+use lib.Seq.{drop-cons, getD-append-add, length-take-le, take-add, take-all, take-append-seam, take-length, drop-at}
+use Rattle.patch.specs.Parts.{part, lay}
+use Rattle.patch.proofs.Parts.{length-lay, lay-inside, lay-below, lay-above, is-lay, part-lay}
+
+pub lay-append : (at : ℕ) (v w l : List ℕ) → at + length (v ++ w) ≤ length l
+    → lay (at + length v) w (lay at v l) ≡ lay at (v ++ w) l
+lay-append at v w l fits =
+    let size : length (v ++ w) ≡ length v + length w = length-append v w in
+    let long : length (lay at v l) ≡ length l = length-lay at v l in
+    is-lay at (v ++ w) l (lay (at + length v) w (lay at v l)) fits (length-lay (at + length v) w (lay at v l) ∙ long)
+    (λ i h. lay-below (at + length v) w (lay at v l) i (omega arith) ∙ lay-below at v l i h)
+    (λ k h. inside k (omega arith) (omega arith) (decLt k (length v)))
+    (λ i h. lay-above (at + length v) w (lay at v l) i (omega arith) ∙ lay-above at v l i (omega arith))
+  where
+    inside : (k : ℕ) → k < length v + length w → at + (length v + length w) ≤ length l → Dec (k < length v)
+        → getD (lay (at + length v) w (lay at v l)) (at + k) 0 ≡ getD (v ++ w) k 0
+    inside k h f (yes g) =
+        lay-below (at + length v) w (lay at v l) (at + k) (omega arith)
+        ∙ lay-inside at v l k g (omega arith) ∙ sym (List·getD-append v w 0 k g)
+    inside k h f (no g) =
+        let long : length (lay at v l) ≡ length l = length-lay at v l in
+        let e : at + k ≡ at + length v + (k - length v) = omega arith in
+        let e′ : length v + (k - length v) ≡ k = omega arith in
+        ap (λ (i : ℕ). getD (lay (at + length v) w (lay at v l)) i 0) e
+        ∙ lay-inside (at + length v) w (lay at v l) (k - length v) (omega arith) (omega arith)
+        ∙ sym (getD-append-add v w (k - length v) 0)
+        ∙ ap (λ (i : ℕ). getD (v ++ w) i 0) e′
+
+pub behind : (at : ℕ) (v w l : List ℕ) {n : ℕ} {s : List ℕ} → length v ≡ n → s ≡ lay at v l → at + length (v ++ w) ≤ length l
+    → lay (at + n) w s ≡ lay at (v ++ w) l
+behind at v w l e is fits = rw (← e, is) (lay-append at v w l fits)
+
+module _ (v l : List ℕ) {n : ℕ} {s : List ℕ} (is : s ≡ lay 0 v l) (size : length v ≡ n) (fits : n ≤ length l) where
+  pub front : take n s ≡ v
+  unfolding part
+  front = rw (is, ← size) (part-lay 0 v l (omega arith))
+
+  pub tail : (k : ℕ) → k ≤ n → take (n - k) (drop k s) ≡ drop k v
+  tail k h =
+      let long : length s ≡ length l = ap length is ∙ length-lay 0 v l in
+      let e : k + (n - k) ≡ n = omega arith in
+      sym (drop-at (take k s) (take (n - k) (drop k s)) k (length-take-le k s (omega arith)))
+      ∙ ap (drop k) (sym (take-add k (n - k) s) ∙ ap (λ (i : ℕ). take i s) e ∙ front)
+
+pub lay-all : (v l : List ℕ) → length v ≡ length l → lay 0 v l ≡ v
+lay-all v l e = sym (take-all (length v) (lay 0 v l) (omega (arith, length-lay 0 v l))) ∙ front v l refl refl (omega arith)
+
+pub copied : (v l : List ℕ) {s : List ℕ} → length v ≡ length l → s ≡ take (length v) v ++ drop (length v) l → s ≡ v
+copied v l e is =
+    let long : length l ≤ length v = omega arith in
+    is ∙ rw (take-length, drop-of-length-le l long, append-nil)
+
+pub copied-front : (v l : List ℕ) {s : List ℕ} → s ≡ take (length v) v ++ drop (length v) l → take (length v) s ≡ v
+copied-front v l is = rw (is, take-length) (take-append-seam v (drop (length v) l))
+
+-- of the lengths from l on, the first and the others
+pub next : (ks : List ℕ) (l : ℕ) → l < length ks → drop l ks ≡ getD ks l 0 ∷ drop (l + 1) ks
+next ks l h = rw (add-one, drop-cons ks l 0)
+
+pub record RowAt (n : ℕ) (ks : List ℕ) (l from : ℕ) : Type 0 where
+  pub within : l ≤ length ks
+  pub array : from + length (drop l ks) * n ≡ length ks * n
+
+module _ (n : ℕ) (ks : List ℕ) where
+  pub first-row : RowAt n ks 0 0
+  first-row = record { within = omega arith; array = omega arith }
+
+  module _ {l from : ℕ} (p : RowAt n ks l from) (h : l < length ks) where
+    cells : length (drop l ks) * n ≡ length (drop (l + 1) ks) * n + n
+    cells = ap (λ (js : List ℕ). length js * n) (next ks l h) ∙ suc-mul (length (drop (l + 1) ks)) n
+
+    pub next-row : RowAt n ks (l + 1) (from + n)
+    next-row = record { within = omega (arith, p .within); array = omega (arith, cells, p .array) }
+
+    pub row-room : from + n ≤ length ks * n
+    row-room = omega (arith, cells, p .array)
+
+  pub row-left : {l from : ℕ} → RowAt n ks l from → (y : List ℕ) → length y ≡ length ks * n → length (drop from y) ≡ length (drop l ks) * n
+  row-left {l} {from} p y e = omega (arith, length-drop from y, p .array)
+
+  pub row-size : {l from : ℕ} → RowAt n ks l from → l < length ks → (y : List ℕ) → length y ≡ length ks * n → length (take n (drop from y)) ≡ n
+  row-size {l} {from} p h y e = length-take-le n (drop from y) (omega (arith, length-drop from y, row-room p h))

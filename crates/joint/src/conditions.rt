@@ -1,0 +1,117 @@
+// The conditions that a received array puts on its locators: row after row, points with the values that divided differences
+// leave there.
+ghost use mathlib.Core.Path.{_≡_};
+ghost use mathlib.Core.Bool.{true, false};
+ghost use mathlib.Core.Logic.{_↔_};
+ghost use Prim.Native.Nat.{ℕ, _+_, _-_, _≤_};
+ghost use lib.ListN.{length, getD, drop};
+ghost use Rattle.patch.specs.Patch.{patch};
+ghost use Rattle.patch.specs.Parts.{lay};
+ghost use Rattle.refusal.specs.Refusal.{badDegree};
+ghost use Rattle.field.specs.Symbols.{IsSymbol};
+ghost use Rattle.field.specs.Arithmetic.{gf};
+ghost use Rattle.field.specs.Tables.{IsTable};
+ghost use Rattle.poly.specs.Poly.{All};
+ghost use Rattle.poly.proofs.Forms.{reduce};
+ghost use Rattle.rows.specs.Rows.{Points};
+ghost use Rattle.mark.specs.Code.{IsArray, codeOf};
+ghost use Rattle.mark.proofs.Passed.{Counts};
+ghost use Rattle.mark.proofs.Proper.{Proper, Within};
+ghost use Rattle.joint.specs.Working.{reducedPoints, reducedValues};
+use field::tables::LENT;
+
+// A byte as a count.
+fn wide(x: u8) -> usize
+    ensures { λ r. ⌜ r ≡ x ⌝ }
+{
+    x as usize
+}
+
+// How many conditions each row has.
+pub(crate) fn row_counts(lengths: &[u8], points: &[u8], counts: &mut [usize])
+    requires { ⌜ Within 1 (length (now points)) (now lengths) × (length (now lengths) ≤ length (now counts)) ⌝ }
+    ensures { λ _. ⌜ now (counts .exit) ≡ patch 0 (length (now (lengths .entry))) (λ l. length (now (points .entry)) - getD (now (lengths .entry)) l 0) (now (counts .entry)) ⌝ }
+{
+    let mut l = 0;
+    while l < lengths.len() {
+        counts[l] = points.len() - wide(lengths[l]);
+        l += 1;
+    }
+}
+
+// Whether all symbols are zero.
+pub(crate) fn all_zero(s: &[u8]) -> bool
+    ensures { λ r. ⌜ (r ≡ true) ↔ All (λ (a : ℕ). a ≡ 0) (now (s .entry)) ⌝ }
+{
+    let mut i = 0;
+    while i < s.len() {
+        if s[i] != 0 {
+            return false;
+        }
+        i += 1;
+    }
+    true
+}
+
+// The conditions of a row: what k rounds of divided differences leave of it, in us from `at` on, and the points, in xs.
+fn row_conditions(
+    table: &[u8; LENT],
+    degree: u32,
+    points: &[u8],
+    k: usize,
+    row: &[u8],
+    us: &mut [u8],
+    xs: &mut [u8],
+    at: usize,
+)
+    requires { ⌜ (badDegree degree ≡ false) × IsTable degree (now table) × Points degree (now points) ⌝ }
+    requires { ⌜ (k ≤ length (now points)) × (length (now points) ≤ 96) × (length (now row) ≡ length (now points)) × All (IsSymbol degree) (now row) ⌝ }
+    requires { ⌜ (at + (length (now points) - k) ≤ length (now us)) × (at + (length (now points) - k) ≤ length (now xs)) ⌝ }
+    ensures { λ _. ⌜ (now (us .exit) ≡ lay at (drop k (reduce (gf degree) k (now (points .entry)) (now (row .entry)))) (now (us .entry)))
+        × (now (xs .exit) ≡ lay at (drop k (now (points .entry))) (now (xs .entry))) ⌝ }
+{
+    let mut held = [0u8; 96];
+    rows::store(row, &mut held, 0);
+    rows::reduce(table, degree, points, k, &mut held, 0);
+    rows::store(&held[k..points.len()], us, at);
+    rows::store(&points[k..], xs, at);
+}
+
+// The conditions of all rows at the front of us and xs; answers how many there are.
+pub(crate) fn conditions(
+    table: &[u8; LENT],
+    degree: u32,
+    lengths: &[u8],
+    points: &[u8],
+    received: &[u8],
+    us: &mut [u8],
+    xs: &mut [u8],
+) -> usize
+    requires { ⌜ Counts (codeOf degree (now points) (now lengths)) × Proper (codeOf degree (now points) (now lengths)) ⌝ }
+    requires { ⌜ IsArray (codeOf degree (now points) (now lengths)) (now received) × IsTable degree (now table) ⌝ }
+    requires { ⌜ (length (now us) ≡ 384) × (length (now xs) ≡ 384) ⌝ }
+    ensures { λ r. ⌜ (r ≡ length (reducedPoints (now (points .entry)) (now (lengths .entry))))
+        × (now (us .exit) ≡ lay 0 (reducedValues degree (now (points .entry)) (now (lengths .entry)) (now (received .entry))) (now (us .entry)))
+        × (now (xs .exit) ≡ lay 0 (reducedPoints (now (points .entry)) (now (lengths .entry))) (now (xs .entry))) ⌝ }
+{
+    let mut from = 0;
+    let mut at = 0;
+    let mut l = 0;
+    while l < lengths.len() {
+        let k = wide(lengths[l]);
+        row_conditions(
+            table,
+            degree,
+            points,
+            k,
+            &received[from..from + points.len()],
+            us,
+            xs,
+            at,
+        );
+        from += points.len();
+        at += points.len() - k;
+        l += 1;
+    }
+    at
+}

@@ -1,0 +1,165 @@
+// How a decoding ends: from the conditions of the received array to the ending, with the answer in buffers of our own.
+ghost use mathlib.Core.Path.{_≡_};
+ghost use mathlib.Core.Bool.{true, false};
+ghost use mathlib.Core.List.{List};
+ghost use Prim.Native.Nat.{ℕ, suc, _*_, _≤_};
+ghost use lib.ListN.{length};
+ghost use Rattle.field.specs.Tables.{IsTable};
+ghost use Rattle.mark.specs.Code.{IsArray, codeOf, jointLimit};
+ghost use Rattle.mark.proofs.Passed.{Counts};
+ghost use Rattle.mark.proofs.Proper.{Proper};
+ghost use Rattle.basis.proofs.Lines.{Line, another};
+ghost use Rattle.solver.specs.Held.{Holds, LeadsOf};
+ghost use Rattle.ending.specs.Endings.{Buffers, Ends};
+ghost use Rattle.ending.proofs.Model.{Beyond, decided, linesOf};
+ghost use Rattle.joint.specs.Working.{reducedPoints, reducedValues, fronts, released};
+use crate::conditions;
+use crate::finish;
+use ending::Ending;
+use field::tables::LENT;
+
+// Whether a line other than those of lead m has a lead within size t.
+fn another_within(leads: &[usize; 5], lines: usize, m: usize, t: usize) -> bool
+    requires { ⌜ (lines ≤ 5) × (t ≤ 96) ⌝ }
+    ensures { λ r. ⌜ ((es : List (Line ℕ)) → length es ≡ lines → LeadsOf (now (leads .entry)) es
+        → (r ≡ true → Beyond (t * lines) (another m es) → ⊥) × (r ≡ false → Beyond (t * lines) (another m es))) ⌝ }
+{
+    let q = solver::scan::another(leads, lines, m);
+    if q == lines {
+        return false;
+    }
+    leads[q] <= t * lines
+}
+
+// Decides on the solver's lines, which the space holds behind `count` conditions.
+fn decide(
+    table: &[u8; LENT],
+    degree: u32,
+    lengths: &[u8],
+    points: &[u8],
+    limit: u32,
+    received: &[u8],
+    count: usize,
+    leads: &[usize; 5],
+    space: &[u8],
+    array: &mut [u8],
+    flags: &mut [u8],
+) -> Ending
+    requires { ⌜ Counts (codeOf degree (now points) (now lengths)) × Proper (codeOf degree (now points) (now lengths)) ⌝ }
+    requires { ⌜ IsArray (codeOf degree (now points) (now lengths)) (now received) × (limit ≤ jointLimit (codeOf degree (now points) (now lengths))) × IsTable degree (now table) ⌝ }
+    requires { ⌜ (count ≤ 380) × (3840 ≤ length (now space)) × (length (now array) ≡ 384) × (length (now flags) ≡ 96) ⌝ }
+    requires { ⌜ Holds degree count (suc (length (now lengths))) count (now leads) (now space) (linesOf (codeOf degree (now points) (now lengths)) (now received)) ⌝ }
+    ensures { λ r. ⌜ ((lent : Buffers) → decided (codeOf degree (now (points .entry)) (now (lengths .entry))) (now (received .entry)) limit lent
+        ≡ (r, released r (fronts (codeOf degree (now (points .entry)) (now (lengths .entry))) (now (array .exit)) (now (flags .exit))) lent)) ⌝ }
+{
+    let lines = lengths.len() + 1;
+    let p = solver::scan::least(leads, lines);
+    let m = leads[p];
+    let t = (m + lengths.len()) / lines;
+    if (limit as usize) < t {
+        return Ending::Nothing;
+    }
+    if another_within(leads, lines, m, t) {
+        return Ending::Several(t as u8);
+    }
+    let from = 768 * p + count;
+    finish::divide(
+        table,
+        degree,
+        lengths,
+        points,
+        received,
+        &space[from..from + (t + 1)],
+        array,
+        flags,
+    )
+}
+
+// How the decoding of a received array with the conditions us at xs ends; the solver works in the space.
+fn locate(
+    table: &[u8; LENT],
+    degree: u32,
+    lengths: &[u8],
+    points: &[u8],
+    limit: u32,
+    received: &[u8],
+    us: &[u8],
+    xs: &[u8],
+    array: &mut [u8],
+    flags: &mut [u8],
+    space: &mut [u8],
+) -> Ending
+    requires { ⌜ Counts (codeOf degree (now points) (now lengths)) × Proper (codeOf degree (now points) (now lengths)) ⌝ }
+    requires { ⌜ IsArray (codeOf degree (now points) (now lengths)) (now received) × (limit ≤ jointLimit (codeOf degree (now points) (now lengths))) × IsTable degree (now table) ⌝ }
+    requires { ⌜ (now us ≡ reducedValues degree (now points) (now lengths) (now received)) × (now xs ≡ reducedPoints (now points) (now lengths)) ⌝ }
+    requires { ⌜ (3840 ≤ length (now space)) × (length (now array) ≡ 384) × (length (now flags) ≡ 96) ⌝ }
+    ensures { λ r. ⌜ ((lent : Buffers) → decided (codeOf degree (now (points .entry)) (now (lengths .entry))) (now (received .entry)) limit lent
+        ≡ (r, released r (fronts (codeOf degree (now (points .entry)) (now (lengths .entry))) (now (array .exit)) (now (flags .exit))) lent)) ⌝ }
+{
+    let mut counts = [0usize; 4];
+    let mut leads = [0usize; 5];
+    conditions::row_counts(lengths, points, &mut counts);
+    solver::solve(
+        table,
+        degree,
+        &counts[..lengths.len()],
+        xs,
+        us,
+        &mut leads,
+        space,
+    );
+    decide(
+        table,
+        degree,
+        lengths,
+        points,
+        limit,
+        received,
+        us.len(),
+        &leads,
+        space,
+        array,
+        flags,
+    )
+}
+
+// How the decoding of a received array ends. A code array is its own answer.
+pub(crate) fn end(
+    table: &[u8; LENT],
+    degree: u32,
+    lengths: &[u8],
+    points: &[u8],
+    limit: u32,
+    received: &[u8],
+    array: &mut [u8],
+    flags: &mut [u8],
+    space: &mut [u8],
+) -> Ending
+    requires { ⌜ Counts (codeOf degree (now points) (now lengths)) × Proper (codeOf degree (now points) (now lengths)) ⌝ }
+    requires { ⌜ IsArray (codeOf degree (now points) (now lengths)) (now received) × (limit ≤ jointLimit (codeOf degree (now points) (now lengths))) × IsTable degree (now table) ⌝ }
+    requires { ⌜ (3840 ≤ length (now space)) × (length (now array) ≡ 384) × (length (now flags) ≡ 96) ⌝ }
+    ensures { λ r. ⌜ ((lent : Buffers) → Ends (codeOf degree (now (points .entry)) (now (lengths .entry))) (now (received .entry)) limit lent
+        r (released r (fronts (codeOf degree (now (points .entry)) (now (lengths .entry))) (now (array .exit)) (now (flags .exit))) lent)) ⌝ }
+{
+    let mut us = [0u8; 384];
+    let mut xs = [0u8; 384];
+    let n = conditions::conditions(table, degree, lengths, points, received, &mut us, &mut xs);
+    if conditions::all_zero(&us[..n]) {
+        rows::store(received, array, 0);
+        rows::clear(flags, 0, points.len());
+        return Ending::Corrected(0);
+    }
+    locate(
+        table,
+        degree,
+        lengths,
+        points,
+        limit,
+        received,
+        &us[..n],
+        &xs[..n],
+        array,
+        flags,
+        space,
+    )
+}
