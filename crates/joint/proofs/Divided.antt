@@ -15,7 +15,7 @@ use Rattle.patch.specs.Parts.{lay}
 use Rattle.field.specs.Arithmetic.{gf}
 use Rattle.poly.specs.Poly.{value, valuesAt}
 use Rattle.poly.proofs.Values.{length-values}
-use Rattle.mark.specs.Code.{Code, rows, columns, total, IsArray, jointLimit}
+use Rattle.mark.specs.Code.{Code, columns, total, IsArray, jointLimit}
 use Rattle.mark.proofs.Proper.{Proper}
 use Rattle.mark.proofs.Passed.{Counts}
 use Rattle.mark.proofs.Limits.{Room, joint-room}

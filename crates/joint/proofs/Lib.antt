@@ -6,3 +6,5 @@ pub mod Decisions
 pub mod Divided
 pub mod Blank
 pub mod Promised
+pub mod Unique
+pub mod Demands

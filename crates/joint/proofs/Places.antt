@@ -2,20 +2,20 @@
 --
 --   lay-append, behind   two rows laid one behind the other
 --   front, tail          the front of what a row was laid over; the row from entry k on
---   lay-all, copied      a row over a list of its length, laid or copied; copied-front, over the front of a longer one
+--   copied, copied-front a list copied over one of its length; over the front of a longer one
 --   RowAt n ks l from    row l, of rows with the lengths ks and n symbols each, begins at symbol from of the array
---   first-row, next-row  the first row; the row behind a row
+--   next-row             the row behind a row
 --   row-room, row-left, row-size    a row has its place; what is left from it on; how long it is
 -- Assumes nothing.
-use mathlib.Core.Path.{_≡_, refl, sym, ap, _∙_}
+use mathlib.Core.Path.{_≡_, sym, ap, _∙_}
 use mathlib.Core.List.{List, _∷_, _++_, append-nil}
-use Prim.Native.Nat.{ℕ, zero, suc, _+_, _-_, _*_, _≤_, _<_}
+use Prim.Native.Nat.{ℕ, _+_, _-_, _*_, _≤_, _<_}
 use native.Mathlib.Nat.{suc-mul}
 use native.Mathlib.Numerals.{add-one}
 use native.Mathlib.Decide.{decLt}
 use native.Mathlib.Omega.{arith}
 use lib.ListN.{length, getD, take, drop, length-append, length-drop, drop-of-length-le, List·getD-append}
-use lib.Seq.{drop-cons, getD-append-add, length-take-le, take-add, take-all, take-append-seam, take-length, drop-at}
+use lib.Seq.{drop-cons, getD-append-add, length-take-le, take-add, take-append-seam, take-length, drop-at}
 use Rattle.patch.specs.Parts.{part, lay}
 use Rattle.patch.proofs.Parts.{length-lay, lay-inside, lay-below, lay-above, is-lay, part-lay}
 
@@ -59,9 +59,6 @@ module _ (v l : List ℕ) {n : ℕ} {s : List ℕ} (is : s ≡ lay 0 v l) (size 
       sym (drop-at (take k s) (take (n - k) (drop k s)) k (length-take-le k s (omega arith)))
       ∙ ap (drop k) (sym (take-add k (n - k) s) ∙ ap (λ (i : ℕ). take i s) e ∙ front)
 
-pub lay-all : (v l : List ℕ) → length v ≡ length l → lay 0 v l ≡ v
-lay-all v l e = sym (take-all (length v) (lay 0 v l) (omega (arith, length-lay 0 v l))) ∙ front v l refl refl (omega arith)
-
 pub copied : (v l : List ℕ) {s : List ℕ} → length v ≡ length l → s ≡ take (length v) v ++ drop (length v) l → s ≡ v
 copied v l e is =
     let long : length l ≤ length v = omega arith in
@@ -79,9 +76,6 @@ pub record RowAt (n : ℕ) (ks : List ℕ) (l from : ℕ) : Type 0 where
   pub array : from + length (drop l ks) * n ≡ length ks * n
 
 module _ (n : ℕ) (ks : List ℕ) where
-  pub first-row : RowAt n ks 0 0
-  first-row = record { within = omega arith; array = omega arith }
-
   module _ {l from : ℕ} (p : RowAt n ks l from) (h : l < length ks) where
     cells : length (drop l ks) * n ≡ length (drop (l + 1) ks) * n + n
     cells = ap (λ (js : List ℕ). length js * n) (next ks l h) ∙ suc-mul (length (drop (l + 1) ks)) n

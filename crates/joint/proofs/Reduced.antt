@@ -1,6 +1,6 @@
 -- The conditions of a received array, row by row.
 --
---   length-points, length-values    there are r·n − K of them, as many values as points
+--   length-values                   there are as many values as points
 --   most-points, row-within         at most 380; each k is 1 to n
 --   row-reduced                     a row, stored and reduced
 --   points-count                    those of a row, and of the rows behind it
@@ -13,7 +13,6 @@
 use mathlib.Core.Path.{_≡_, refl, sym, ap, ap₂, _∙_}
 use mathlib.Core.List.{List, [], _∷_, _++_, map, zip, zipWith}
 use Prim.Native.Nat.{ℕ, zero, suc, _+_, _-_, _*_, _≤_, _<_}
-use native.Mathlib.Nat.{suc-mul, zero-mul}
 use native.Mathlib.Omega.{arith}
 use lib.ListN.{length, getD, take, drop, length-append, length-drop, length-map}
 use lib.Seq.{drop-drop, ext-getD, length-take-le}
@@ -28,7 +27,7 @@ use Rattle.poly.specs.Poly.{All}
 use Rattle.poly.proofs.Forms.{reduce}
 use Rattle.poly.proofs.Differences.{length-reduce, length-left, symbols-left}
 use Rattle.refusal.proofs.Laws.{each-within}
-use Rattle.mark.specs.Code.{codeOf, total}
+use Rattle.mark.specs.Code.{codeOf}
 use Rattle.mark.proofs.Parts.{all-take, all-drop, all-append, row-length, rest-length}
 use Rattle.mark.proofs.Proper.{Within, lengths-test}
 use Rattle.mark.proofs.Passed.{Counts}
@@ -40,18 +39,6 @@ use Rattle.joint.specs.Working.{reducedPoints, reducedValues}
 use Rattle.joint.proofs.Places.{RowAt, next, behind, front, tail, row-left, row-size}
 
 module _ (xs : List ℕ) where
-  pub length-points : (ks : List ℕ) → Within 1 (length xs) ks → length (reducedPoints xs ks) + total ks ≡ length ks * length xs
-  unfolding reducedPoints total
-  length-points [] w = omega (arith, zero-mul (length xs))
-  length-points (k ∷ ks) w = omega (
-    arith,
-    suc-mul (length ks) (length xs),
-    length-append (drop k xs) (reducedPoints xs ks),
-    length-drop k xs,
-    w .0 .1,
-    length-points ks (w .1),
-  )
-
   few-points : (ks : List ℕ) → Within 1 (length xs) ks → length xs ≤ 96 → length (reducedPoints xs ks) ≤ 95 * length ks
   unfolding reducedPoints
   few-points [] w n = omega arith

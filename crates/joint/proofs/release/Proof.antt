@@ -1,7 +1,6 @@
 -- `release` copies on `corrected`, and on no other ending.
 -- Assumes nothing.
-use mathlib.Core.Path.{_≡_, sym, ap, ap₂, _∙_}
-use native.Mathlib.Omega.{arith}
+use mathlib.Core.Path.{ap₂}
 use Rattle.joint.specs.Promises.{buffers}
 use Rattle.joint.proofs.Places.{copied}
 use borrow.Author.Needs.{needs}

@@ -2,11 +2,11 @@
 -- Assumes nothing.
 use mathlib.Core.Path.{_≡_, sym, ap, _∙_, subst}
 use mathlib.Core.List.{List}
-use Prim.Native.Nat.{ℕ, _≤_}
+use Prim.Native.Nat.{ℕ}
 use native.Mathlib.Omega.{arith}
 use lib.ListN.{length, take, replicate}
 use lib.Seq.{length-take-le}
-use Rattle.mark.specs.Code.{Code, codeOf}
+use Rattle.mark.specs.Code.{codeOf}
 use Rattle.ending.specs.Endings.{Buffers, Ends}
 use Rattle.joint.specs.Promises.{buffers}
 use Rattle.joint.specs.Working.{released, fronts}

@@ -1,6 +1,6 @@
 -- `conditions::conditions` lays the conditions of each row behind those of the row before.
 -- Assumes nothing.
-use mathlib.Core.Path.{_≡_, sym, ap, _∙_}
+use mathlib.Core.Path.{_≡_, sym, _∙_}
 use mathlib.Core.List.{List}
 use Prim.Native.Nat.{ℕ, _+_, _-_, _≤_}
 use native.Mathlib.Omega.{arith}
@@ -10,7 +10,7 @@ use Rattle.patch.proofs.Parts.{lay-none}
 use Rattle.field.specs.Symbols.{IsSymbol}
 use Rattle.mark.proofs.Parts.{all-take, all-drop}
 use Rattle.joint.specs.Working.{reducedPoints, reducedValues}
-use Rattle.joint.proofs.Places.{RowAt, first-row, next-row, row-room, row-size}
+use Rattle.joint.proofs.Places.{RowAt, next-row, row-room, row-size}
 use Rattle.joint.proofs.Reduced.{most-points, row-within, points-count, points-more, values-more}
 use borrow.Author.Needs.{needs}
 use Rattle.joint.proofs.conditions.conditions.Statement.{statement}

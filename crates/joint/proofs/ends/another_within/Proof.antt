@@ -1,6 +1,6 @@
 -- `ends::another_within` reads the lead of the line that the scan finds.
 -- Assumes nothing.
-use mathlib.Core.Path.{_≡_, sym, _∙_}
+use mathlib.Core.Path.{sym}
 use mathlib.Core.Bool.{true≢false}
 use Prim.Native.Nat.{_*_, _<_}
 use native.Mathlib.Nat.{mul-le-mul}

@@ -1,13 +1,12 @@
 -- `ends::end` answers a code array with itself, and has the rest located.
 -- Assumes nothing.
-use mathlib.Core.Path.{_≡_, refl, sym, ap, ap₂, _∙_, subst}
-use mathlib.Core.List.{List}
-use Prim.Native.Nat.{ℕ, _≤_}
+use mathlib.Core.Path.{_≡_, sym, ap₂, _∙_, subst}
+use Prim.Native.Nat.{_≤_}
 use native.Mathlib.Omega.{arith}
 use lib.ListN.{length, take, replicate}
 use lib.Seq.{length-take-le}
 use Rattle.mark.specs.Code.{Code, codeOf}
-use Rattle.ending.specs.Endings.{Buffers, Ends, Corrects}
+use Rattle.ending.specs.Endings.{Ends, Corrects}
 use Rattle.ending.proofs.Model.{Outcome}
 use Rattle.ending.proofs.ModelEnds.{model-ends}
 use Rattle.ending.proofs.ModelCode.{code-ends}

@@ -1,8 +1,8 @@
 -- `ends::locate` has the solver run on the conditions, and decides on its lines.
 -- Assumes nothing.
-use mathlib.Core.Path.{_≡_, sym, ap, _∙_, subst, subst₂}
-use mathlib.Core.List.{List, map}
-use Prim.Native.Nat.{ℕ, suc, _-_, _*_, _≤_}
+use mathlib.Core.Path.{_≡_, sym, ap, _∙_, subst₂}
+use mathlib.Core.List.{List}
+use Prim.Native.Nat.{ℕ, suc, _-_, _≤_}
 use native.Mathlib.Omega.{arith}
 use lib.ListN.{length, getD, take, replicate}
 use lib.Seq.{length-take-le}
@@ -14,7 +14,6 @@ use Rattle.solver.specs.Held.{Holds}
 use Rattle.solver.specs.Solver.{RowsAre}
 use Rattle.ending.proofs.Model.{rowsOf, linesOf}
 use Rattle.ending.proofs.ModelRows.{rows-count}
-use Rattle.joint.specs.Working.{reducedPoints, reducedValues}
 use Rattle.joint.proofs.Reduced.{most-points, points-symbols, values-symbols, length-values, counts-front}
 use Rattle.joint.proofs.Decisions.{solved-rows}
 use borrow.Author.Needs.{needs}

@@ -11,7 +11,7 @@ use Rattle.patch.proofs.Parts.{lay-none}
 use Rattle.field.specs.Symbols.{IsSymbol}
 use Rattle.field.specs.Arithmetic.{gf}
 use Rattle.mark.proofs.Parts.{all-take, all-drop}
-use Rattle.ending.proofs.Model.{right, filledRows}
+use Rattle.ending.proofs.Model.{filledRows}
 use Rattle.joint.proofs.Places.{RowAt, next-row, row-room, row-size}
 use Rattle.joint.proofs.Reduced.{row-within}
 use Rattle.joint.proofs.Marks.{right-most, all-right}
