@@ -13,6 +13,7 @@ ghost use Rattle.field.specs.Lists.{scaled, added, multiplied, SymbolsAt
 use crate::tables::LENT;
 use crate::tables::exponent_from;
 use crate::tables::power_from;
+use crate::tables::product_from;
 use crate::tables::size;
 
 // A bit times a byte.
@@ -184,6 +185,42 @@ fn multiply_by_bits(degree: u32, half: u8, low: u8, w: &[u8], a: u8, s: &mut [u8
     }
 }
 
+// The same, from the table: quicker for a few symbols.
+fn multiply_few(table: &[u8; LENT], degree: u32, w: &[u8], a: u8, s: &mut [u8], at: usize, b: u8)
+    requires { ⌜ (badDegree degree ≡ false) × IsTable degree (now table) × (a < 2 ^ degree) × (b < 2 ^ degree) ⌝ }
+    requires { ⌜ at + length (now w) ≤ length (now s) ⌝ }
+    requires { ⌜ SymbolsAt degree (now w) 0 (length (now w)) × SymbolsAt degree (now s) at (length (now w)) ⌝ }
+    ensures { λ _. ⌜ now (s .exit) ≡ patch at (length (now (w .entry))) (multiplied degree (now (w .entry)) a (now (s .entry)) at b) (now (s .entry)) ⌝ }
+{
+    let mut i = 0;
+    while i < w.len() {
+        s[at + i] = product_from(table, degree, w[i] ^ a, s[at + i] ^ b);
+        i += 1;
+    }
+}
+
+// The same, sixteens bit by bit and what is left over from the table.
+fn multiply_parts(
+    table: &[u8; LENT],
+    degree: u32,
+    half: u8,
+    low: u8,
+    w: &[u8],
+    a: u8,
+    s: &mut [u8],
+    at: usize,
+    b: u8,
+)
+    requires { ⌜ (badDegree degree ≡ false) × IsTable degree (now table) × Reducer degree half low × (a < 2 ^ degree) × (b < 2 ^ degree) ⌝ }
+    requires { ⌜ at + length (now w) ≤ length (now s) ⌝ }
+    requires { ⌜ SymbolsAt degree (now w) 0 (length (now w)) × SymbolsAt degree (now s) at (length (now w)) ⌝ }
+    ensures { λ _. ⌜ now (s .exit) ≡ patch at (length (now (w .entry))) (multiplied degree (now (w .entry)) a (now (s .entry)) at b) (now (s .entry)) ⌝ }
+{
+    let many = w.len() / 16 * 16;
+    multiply_by_bits(degree, half, low, &w[..many], a, s, at, b);
+    multiply_few(table, degree, &w[many..], a, s, at + many, b);
+}
+
 // For the crates above: multiplies the part of s at `at`, each symbol with b added, by the symbols of w with a added.
 pub fn multiply(table: &[u8; LENT], degree: u32, w: &[u8], a: u8, s: &mut [u8], at: usize, b: u8)
     requires { ⌜ (badDegree degree ≡ false) × IsTable degree (now table) × (a < 2 ^ degree) × (b < 2 ^ degree) ⌝ }
@@ -193,5 +230,5 @@ pub fn multiply(table: &[u8; LENT], degree: u32, w: &[u8], a: u8, s: &mut [u8], 
 {
     let half = (size(degree) / 2) as u8;
     let low = low_bits(table, degree);
-    multiply_by_bits(degree, half, low, w, a, s, at, b);
+    multiply_parts(table, degree, half, low, w, a, s, at, b);
 }

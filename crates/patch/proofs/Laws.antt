@@ -4,6 +4,7 @@
 --   length-patch              the length stays
 --   patch-inside, patch-below, patch-above    what stands at a place of the part, before it, behind it
 --   patch-cong                only the values that are written count
+--   patch-append              a part, and the part behind it
 --   patch-step                a loop's turn: one value stored behind the part
 --   patch-front               such a turn where the part is the list's front
 --   front-at                  what stands in such a part
@@ -12,7 +13,7 @@
 use mathlib.Core.Path.{_≡_, refl, sym, ap, ap₂, _∙_}
 use mathlib.Core.List.{List}
 use Prim.Native.Nat.{ℕ, zero, suc, _+_, _≤_, _<_}
-use native.Mathlib.Nat.{le-refl, zero-add}
+use native.Mathlib.Nat.{le-refl, zero-add, add-zero, add-suc, add-assoc}
 use native.Mathlib.Numerals.{add-one}
 use native.Mathlib.Decide.{ℕ-discrete}
 use native.Mathlib.Omega.{arith}
@@ -59,6 +60,13 @@ unfolding patch
 patch-cong {A} at zero f g l e = refl
 patch-cong {A} at (suc n) f g l e =
     ap₂ (λ (s : List A) (v : A). set s (at + n) v) (patch-cong at n f g l (λ k h. e k (omega arith))) (e n (omega arith))
+
+pub patch-append : {A : Type 0} (at m n : ℕ) (f g : ℕ → A) (l : List A) → ((k : ℕ) → k < n → g k ≡ f (m + k))
+    → patch (at + m) n g (patch at m f l) ≡ patch at (m + n) f l
+unfolding patch
+patch-append {A} at m zero f g l e = rw (add-zero m)
+patch-append {A} at m (suc n) f g l e =
+    rw (add-suc m n) (rw (← add-assoc at m n) (ap₂ (λ (s : List A) (v : A). set s (at + m + n) v) (patch-append at m n f g l (λ k h. e k (omega arith))) (e n (omega arith))))
 
 module _ {A : Type 0} (at i : ℕ) (f : ℕ → A) (l : List A) {s : List A} (is : s ≡ patch at i f l) where
   pub patch-step : {v : A} → v ≡ f i → set s (at + i) v ≡ patch at (i + 1) f l

@@ -18,12 +18,13 @@ cast-half c = omega (arith, c .size .ensures, field-size _ (c .before .before .b
 low-bits-requires : tie.Need-low-bits-requires
 low-bits-requires c κs = search needs
 
-multiply-by-bits-requires : tie.Need-multiply-by-bits-requires
-multiply-by-bits-requires c κs =
+multiply-parts-requires : tie.Need-multiply-parts-requires
+multiply-parts-requires c κs =
     let start = c .before .before .before .before .before in
     let p = start .pre in (
       (
         p .0 .0,
+        p .0 .1,
         record { top = ap (λ (x : ℕ). x / 2) (c .before .before .size .ensures) ∙ half-size _ (positive _ (p .0 .0)); rest = c .before .low-bits .ensures },
         p .0 .2,
         p .0 .3,
@@ -44,6 +45,6 @@ multiply-spec =
     size-requires
     cast-half
     low-bits-requires
-    multiply-by-bits-requires
+    multiply-parts-requires
     same-length
     returns)

@@ -1,0 +1,82 @@
+-- A list of factors taken in two parts, the first of m.
+--
+--   whole-sixteens    the sixteens of a number are within it
+--   Fronted           what multiplying by the first part leaves of l
+--   rest, rest-length    the second part, and its length
+--   front-factors, front-symbols, back-factors, back-symbols    the symbols of each part are symbols
+--   both-parts        multiplying by the two parts, one after the other, is multiplying by the whole
+-- Assumes nothing.
+use mathlib.Core.Path.{_≡_, sym, ap, ap₂, _∙_, subst}
+use mathlib.Core.List.{List}
+use Prim.Native.Nat.{ℕ, _+_, _-_, _*_, _/_, _^_, _≤_, _<_}
+use native.Mathlib.Nat.{add-assoc, zero-add}
+use native.Mathlib.Omega.{arith}
+use lib.ListN.{length, getD, take, drop}
+use lib.Seq.{getD-take, length-take-le}
+use Rattle.patch.specs.Patch.{patch}
+use Rattle.patch.specs.Parts.{part}
+use Rattle.patch.proofs.Laws.{patch-above, patch-cong, patch-append}
+use Rattle.patch.proofs.Parts.{length-part, part-at}
+use Rattle.field.specs.Symbols.{plus, times}
+use Rattle.field.specs.Lists.{multiplied, SymbolsAt}
+
+pub whole-sixteens : (n : ℕ) → n / 16 * 16 ≤ n
+whole-sixteens n = omega arith
+
+module _ (d : ℕ) (w : List ℕ) (a : ℕ) (l : List ℕ) (at b m : ℕ) (fits : m ≤ length w) where
+  abbrev pub Fronted : List ℕ → Type 0
+  Fronted s = s ≡ patch at (length (take m w)) (multiplied d (take m w) a l at b) l
+
+  abbrev pub rest : List ℕ
+  rest = take (length w - m) (drop m w)
+
+  pub rest-length : length rest ≡ length w - m
+  unfolding part
+  rest-length = length-part m (length w - m) w (omega arith)
+
+  rest-at : (k : ℕ) → k < length w - m → getD rest k 0 ≡ getD w (m + k) 0
+  unfolding part
+  rest-at k h = part-at m (length w - m) w k h
+
+  front-length : length (take m w) ≡ m
+  front-length = length-take-le m w fits
+
+  pub front-factors : SymbolsAt d w 0 (length w) → SymbolsAt d (take m w) 0 (length (take m w))
+  front-factors h k lt =
+      subst (λ (x : ℕ). x < 2 ^ d) (sym (getD-take m w (0 + k) 0 (omega (arith, front-length)))) (h k (omega (arith, front-length)))
+
+  pub front-symbols : SymbolsAt d l at (length w) → SymbolsAt d l at (length (take m w))
+  front-symbols h k lt = h k (omega (arith, front-length))
+
+  pub back-factors : SymbolsAt d w 0 (length w) → SymbolsAt d rest 0 (length rest)
+  back-factors h k lt =
+      let below : k < length w - m = omega (arith, rest-length) in
+      subst (λ (x : ℕ). x < 2 ^ d) (ap (λ (i : ℕ). getD w i 0) (zero-add (m + k)) ∙ sym (rest-at k below) ∙ ap (λ (i : ℕ). getD rest i 0) (sym (zero-add k))) (h (m + k) (omega arith))
+
+  above : {s : List ℕ} → Fronted s → (k : ℕ) → getD s (at + m + k) 0 ≡ getD l (at + (m + k)) 0
+  above {s} is k =
+      ap (λ (x : List ℕ). getD x (at + m + k) 0) is
+      ∙ patch-above at (multiplied d (take m w) a l at b) l (length (take m w)) (at + m + k) 0 (omega (arith, front-length))
+      ∙ ap (λ (i : ℕ). getD l i 0) (add-assoc at m k)
+
+  pub back-symbols : {s : List ℕ} → Fronted s → SymbolsAt d l at (length w) → SymbolsAt d s (at + m) (length rest)
+  back-symbols is h k lt = subst (λ (x : ℕ). x < 2 ^ d) (sym (above is k)) (h (m + k) (omega (arith, rest-length)))
+
+  same-front : (k : ℕ) → k < m → multiplied d (take m w) a l at b k ≡ multiplied d w a l at b k
+  unfolding multiplied
+  same-front k h = ap (λ (x : ℕ). times d (plus x a) (plus (getD l (at + k) 0) b)) (getD-take m w k 0 h)
+
+  same-back : {s : List ℕ} → Fronted s → (k : ℕ) → k < length rest → multiplied d rest a s (at + m) b k ≡ multiplied d w a l at b (m + k)
+  unfolding multiplied
+  same-back is k h = ap₂ (λ (x y : ℕ). times d (plus x a) (plus y b)) (rest-at k (omega (arith, rest-length))) (above is k)
+
+  pub both-parts : {s t : List ℕ} → Fronted s → t ≡ patch (at + m) (length rest) (multiplied d rest a s (at + m) b) s
+      → t ≡ patch at (length w) (multiplied d w a l at b) l
+  both-parts {s} {t} is back =
+      let whole : m + length rest ≡ length w = omega (arith, rest-length) in
+      let front : s ≡ patch at m (multiplied d w a l at b) l =
+      is ∙ ap (λ (n : ℕ). patch at n (multiplied d (take m w) a l at b) l) front-length ∙ patch-cong at m _ _ l same-front in
+      back
+      ∙ ap (patch (at + m) (length rest) (multiplied d rest a s (at + m) b)) front
+      ∙ patch-append at m (length rest) (multiplied d w a l at b) _ l (same-back is)
+      ∙ ap (λ (n : ℕ). patch at n (multiplied d w a l at b) l) whole

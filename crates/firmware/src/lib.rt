@@ -1,0 +1,88 @@
+// The C interface: the calls on marks and rings, with their answers as one number. include/grenhyrna.h is for its callers.
+ghost use mathlib.Core.Path.{_≡_};
+ghost use Rattle.firmware.specs.Answers.{Answers};
+ghost use Rattle.mark.specs.Code.{codeOf};
+ghost use Rattle.mark.specs.Promises.{numberOf, Encodes, Reads, left};
+ghost use Rattle.ending.specs.Endings.{packed};
+ghost use Rattle.joint.specs.Promises.{Decodes, buffers, given, left as ended};
+use ending::Ending;
+use mark::Outcome;
+
+// The number of an outcome: 256, or the number of the refusal.
+fn number(outcome: Outcome) -> u32
+    ensures { λ r. ⌜ r ≡ numberOf outcome ⌝ }
+{
+    match outcome {
+        Outcome::Done => 256,
+        Outcome::Refused(k) => k as u32,
+    }
+}
+
+// The number of an ending: 256 times its code, and its detail.
+fn pack(ending: Ending) -> u32
+    ensures { λ r. ⌜ r ≡ packed ending ⌝ }
+{
+    match ending {
+        Ending::Refused(k) => k as u32,
+        Ending::Corrected(w) => 256 + w as u32,
+        Ending::Nothing => 512,
+        Ending::Several(t) => 768 + t as u32,
+        Ending::Hollow(t) => 1024 + t as u32,
+    }
+}
+
+// Writes the code array of a message.
+#[no_mangle]
+pub extern "C" fn gren_mark_encode(
+    degree: u32,
+    lengths: &[u8],
+    points: &[u8],
+    message: &[u8],
+    array: &mut [u8],
+) -> u32
+    ensures { λ r. ⌜ Answers numberOf (λ o. Encodes (codeOf degree (now (points .entry)) (now (lengths .entry))) (now (message .entry)) (now (array .entry)) (left o (now (array .exit)))) r ⌝ }
+{
+    number(mark::encode(degree, lengths, points, message, array))
+}
+
+// Writes the message of a code array.
+#[no_mangle]
+pub extern "C" fn gren_mark_read(
+    degree: u32,
+    lengths: &[u8],
+    points: &[u8],
+    array: &[u8],
+    message: &mut [u8],
+) -> u32
+    ensures { λ r. ⌜ Answers numberOf (λ o. Reads (codeOf degree (now (points .entry)) (now (lengths .entry))) (now (array .entry)) (now (message .entry)) (left o (now (message .exit)))) r ⌝ }
+{
+    number(mark::read(degree, lengths, points, array, message))
+}
+
+// Decodes a received array up to the trial limit.
+#[no_mangle]
+pub extern "C" fn gren_mark_decode(
+    degree: u32,
+    lengths: &[u8],
+    points: &[u8],
+    limit: u32,
+    received: &[u8],
+    answer: &mut [u8],
+    flags: &mut [u8],
+    space: &mut [u8],
+) -> u32
+    ensures { λ r. ⌜ Answers packed (λ e. Decodes
+        (given (codeOf degree (now (points .entry)) (now (lengths .entry))) limit (now (received .entry)) (buffers (now (answer .entry)) (now (flags .entry))) (now (space .entry)))
+        (ended e (buffers (now (answer .exit)) (now (flags .exit))) (now (space .exit)))) r ⌝ }
+{
+    pack(joint::decode(
+        degree,
+        lengths,
+        points,
+        limit,
+        received,
+        answer,
+        flags,
+        space,
+    ))
+}
