@@ -1,14 +1,36 @@
-# make test   proves every crate, tries the must-fail edits, runs the programs and the tests; ends with 'N passed, 0 failed'
-# make run    the main job on a sample
-.PHONY: all test run check fmt clean
+# make test      proves every crate, tries the must-fail edits, runs the programs and the C tests; ends with 'N passed, 0 failed'
+# make run       decodes the records of samples/three.bin; INPUT=file decodes another file's
+# make lib       builds target/staticlib/libfirmware.a for C callers, and the example with it, and runs that
+# make compare   the library against the second program; COUNT=100000 calls, SEED=1
+# make bench     a table of the standard cases, beside a plain C decoder
+# make fuzz      arbitrary bytes for the C functions and for the record program; SECONDS_EACH=30 for each, SEED=1
+# make check     the proofs alone; make fmt lays the sources out; make clean removes what was built
+INPUT ?= samples/three.bin
+COUNT ?= 100000
+SEED ?= 20261115
+SECONDS_EACH ?= 30
+.PHONY: all test run lib compare bench fuzz check fmt clean
 
 all: test
 
 test:
 	@tests/run
 
-run: check
-	@tests/show-arithmetic
+run:
+	@rt check records >/dev/null || rt check records
+	@tests/program records <'$(INPUT)'
+
+lib:
+	@tests/example
+
+compare:
+	@COUNT=$(COUNT) SEED=$(SEED) tests/firmware
+
+bench:
+	@tests/bench/run
+
+fuzz:
+	@SECONDS_EACH=$(SECONDS_EACH) SEED=$(SEED) tests/fuzz
 
 check:
 	@rt check

@@ -1,14 +1,17 @@
 /* The standard cases of the benchmark: runs one of them COUNT times, by the proved library or by the plain C decoder.
  *
- *   bench list                 the cases, a line each
+ *   bench list                   the cases, a line each
  *   bench CASE own|plain COUNT
+ *   bench CASE own|plain time    prints the nanoseconds of a call
  */
+#define _POSIX_C_SOURCE 199309L
 #include "grenhyrna.h"
 #include "plain.h"
 
 #include <stdio.h>
 #include <stdlib.h>
 #include <string.h>
+#include <time.h>
 
 struct test {
     const char *name;
@@ -35,12 +38,50 @@ static const struct test tests[] = {
 
 static uint8_t lengths[4], points[96], message[384], array[384], ring[64], answer[384], flags[96], space[GREN_SPACE];
 
+static struct test t;
+static size_t total, symbols;
+static uint32_t limit, expected;
+static int own;
+
 static uint32_t seed = 12345;
 
 static unsigned below(unsigned n)
 {
     seed = seed * 1103515245u + 12345u;
     return (seed >> 16) % n;
+}
+
+static double seconds(void)
+{
+    struct timespec now;
+    clock_gettime(CLOCK_MONOTONIC, &now);
+    return (double)now.tv_sec + (double)now.tv_nsec / 1e9;
+}
+
+static int run(unsigned long count)
+{
+    uint32_t got = expected;
+    for (unsigned long i = 0; i < count; i++) {
+        if (t.kind == 'd')
+            got = own ? gren_mark_decode(t.degree, lengths, t.rows, points, t.columns, limit, array, symbols, answer, symbols, flags,
+                                         t.columns, space, sizeof space)
+                      : plain_decode(lengths, t.rows, points, t.columns, limit, array, answer, flags);
+        else if (t.kind == 'h')
+            got = own ? gren_ring_decode(4, 37, limit, ring, 64, answer, 64, flags, 16, space, sizeof space)
+                      : plain_decode(lengths, t.rows, points, t.columns, limit, array, answer, flags);
+        else if (t.kind == 'e')
+            got = own ? gren_mark_encode(t.degree, lengths, t.rows, points, t.columns, message, total, answer, symbols)
+                      : (plain_encode(lengths, t.rows, points, t.columns, message, answer), 256u);
+        else
+            got = own ? gren_mark_read(t.degree, lengths, t.rows, points, t.columns, array, symbols, answer, total)
+                      : plain_read(lengths, t.rows, points, t.columns, array, answer) ? 256u
+                                                                                      : 9u;
+        if (got != expected) {
+            fprintf(stderr, "bench: %s: %s answers %u, not %u\n", t.name, own ? "the library" : "the plain decoder", got, expected);
+            return 1;
+        }
+    }
+    return 0;
 }
 
 int main(int argc, char **argv)
@@ -52,13 +93,13 @@ int main(int argc, char **argv)
         return 0;
     }
     if (argc != 4 || strtoul(argv[1], NULL, 10) >= cases) {
-        fprintf(stderr, "usage: bench list | bench CASE own|plain COUNT\n");
+        fprintf(stderr, "usage: bench list | bench CASE own|plain COUNT|time\n");
         return 2;
     }
-    struct test t = tests[strtoul(argv[1], NULL, 10)];
-    int own = !strcmp(argv[2], "own");
+    t = tests[strtoul(argv[1], NULL, 10)];
+    own = !strcmp(argv[2], "own");
     unsigned long count = strtoul(argv[3], NULL, 10);
-    size_t total = 0, symbols = t.rows * t.columns;
+    symbols = t.rows * t.columns;
     for (size_t l = 0; l < t.rows; l++)
         total += lengths[l] = (uint8_t)t.lengths[l];
     for (size_t i = 0; i < t.columns; i++)
@@ -76,28 +117,19 @@ int main(int argc, char **argv)
             ring[4 * column % 64 + l] ^= (uint8_t)(1 + below(15));
         }
     }
-    uint32_t limit = (uint32_t)((symbols - total) / (t.rows + 1)), expected = 256 + t.wrong, got = expected;
+    limit = (uint32_t)((symbols - total) / (t.rows + 1)), expected = 256 + t.wrong;
     if (limit > t.columns - lengths[0])
         limit = t.columns - lengths[0];
-    for (unsigned long i = 0; i < count; i++) {
-        if (t.kind == 'd')
-            got = own ? gren_mark_decode(t.degree, lengths, t.rows, points, t.columns, limit, array, symbols, answer, symbols, flags,
-                                         t.columns, space, sizeof space)
-                      : plain_decode(lengths, t.rows, points, t.columns, limit, array, answer, flags);
-        else if (t.kind == 'h')
-            got = own ? gren_ring_decode(4, 37, limit, ring, 64, answer, 64, flags, 16, space, sizeof space)
-                      : plain_decode(lengths, t.rows, points, t.columns, limit, array, answer, flags);
-        else if (t.kind == 'e')
-            got = own ? gren_mark_encode(t.degree, lengths, t.rows, points, t.columns, message, total, answer, symbols)
-                      : (plain_encode(lengths, t.rows, points, t.columns, message, answer), 256u);
-        else
-            got = own ? gren_mark_read(t.degree, lengths, t.rows, points, t.columns, array, symbols, answer, total)
-                      : plain_read(lengths, t.rows, points, t.columns, array, answer) ? 256u
-                                                                                      : 9u;
-        if (got != expected) {
-            fprintf(stderr, "bench: %s: %s answers %u, not %u\n", t.name, argv[2], got, expected);
+    if (strcmp(argv[3], "time"))
+        return run(count);
+    for (count = 16;; count *= 2) {
+        double began = seconds();
+        if (run(count))
             return 1;
+        double took = seconds() - began;
+        if (took > 0.25) {
+            printf("%.0f\n", took / (double)count * 1e9);
+            return 0;
         }
     }
-    return 0;
 }

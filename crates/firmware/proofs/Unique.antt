@@ -1,0 +1,54 @@
+-- No two outcomes satisfy the promise of a C function: the number and what stands in the buffers afterwards are fixed by what the
+-- call is given.
+--
+--   answers-unique    where no two ends of the call keep its promise, neither do two numbers
+--   mark-encode, mark-read, mark-decode    so of each function
+-- Assumes nothing.
+use mathlib.Core.Path.{_≡_, sym, ap, _∙_}
+use mathlib.Core.List.{List}
+use Prim.Native.Nat.{ℕ}
+use Rattle.mark.specs.Code.{Code}
+use Rattle.mark.specs.Promises.{numberOf, left, Left, Encodes, Reads}
+use Rattle.mark.specs.declared.Outcome.{Outcome}
+use Rattle.mark.proofs.Demand2.{encodes-unique, reads-unique}
+use Rattle.ending.specs.Endings.{packed, Buffers}
+use Rattle.ending.specs.declared.Ending.{Ending}
+use Rattle.joint.specs.Promises as joint
+use Rattle.joint.proofs.Unique as joint-unique
+use Rattle.firmware.specs.Answers.{Answers}
+
+module _ {E B : Type 0} (number : E → ℕ) (Keeps : E → B → Type 0)
+    (unique : (e e′ : E) (b b′ : B) → Keeps e b → Keeps e′ b′ → (e ≡ e′) × (b ≡ b′)) where
+  pub answers-unique : {r r′ : ℕ} {b b′ : B} → Answers number (λ (e : E). Keeps e b) r → Answers number (λ (e : E). Keeps e b′) r′
+      → (r ≡ r′) × (b ≡ b′)
+  answers-unique {r} {r′} {b} {b′} (e, is, h) (e′, is′, h′) =
+      let same = unique e e′ b b′ h h′ in (is ∙ ap number (same .0) ∙ sym is′, same .1)
+
+-- the outcome and the result buffer of an encoding or a reading
+parts : {o o′ : Outcome} {b b′ : List ℕ} → left o b ≡ left o′ b′ → (o ≡ o′) × (b ≡ b′)
+parts e = (ap (λ (x : Left). x .outcome) e, ap (λ (x : Left). x .buffer) e)
+
+pub mark-encode : (c : Code) (m lent : List ℕ) {r r′ : ℕ} {b b′ : List ℕ} → Answers numberOf (λ (o : Outcome). Encodes c m lent (left o b)) r
+    → Answers numberOf (λ (o : Outcome). Encodes c m lent (left o b′)) r′ → (r ≡ r′) × (b ≡ b′)
+mark-encode c m lent =
+    answers-unique numberOf (λ (o : Outcome) (b : List ℕ). Encodes c m lent (left o b)) (λ o o′ b b′ h h′. parts (encodes-unique c m lent (left o b) (left o′ b′) h h′))
+
+pub mark-read : (c : Code) (a lent : List ℕ) {r r′ : ℕ} {b b′ : List ℕ} → Answers numberOf (λ (o : Outcome). Reads c a lent (left o b)) r
+    → Answers numberOf (λ (o : Outcome). Reads c a lent (left o b′)) r′ → (r ≡ r′) × (b ≡ b′)
+mark-read c a lent =
+    answers-unique numberOf (λ (o : Outcome) (b : List ℕ). Reads c a lent (left o b)) (λ o o′ b b′ h h′. parts (reads-unique c a lent (left o b) (left o′ b′) h h′))
+
+-- what a decoding leaves in the buffers lent to it
+abbrev pub Kept : Type 0
+Kept = Buffers × List ℕ
+
+abbrev pub ended : Ending → Kept → joint.Left
+ended e b = joint.left e (b .0) (b .1)
+
+ended-parts : {e e′ : Ending} {b b′ : Kept} → ended e b ≡ ended e′ b′ → (e ≡ e′) × (b ≡ b′)
+ended-parts p = (ap (λ (x : joint.Left). x .ending) p, ap (λ (x : joint.Left). (x .buffers, x .space)) p)
+
+pub mark-decode : (g : joint.Given) {r r′ : ℕ} {b b′ : Kept} → Answers packed (λ (e : Ending). joint.Decodes g (ended e b)) r
+    → Answers packed (λ (e : Ending). joint.Decodes g (ended e b′)) r′ → (r ≡ r′) × (b ≡ b′)
+mark-decode g =
+    answers-unique packed (λ (e : Ending) (b : Kept). joint.Decodes g (ended e b)) (λ e e′ b b′ h h′. ended-parts (joint-unique.unique g (ended e b) (ended e′ b′) h h′))

@@ -1,0 +1,251 @@
+/* Feeds the C functions arbitrary numbers and bytes. Every buffer lies between two pages that cannot be touched, at the front of its
+ * room or at its end, so that a byte read or written outside stops the program. After each call what must be as it was is compared,
+ * and the working space is looked at.
+ *
+ *   fuzz calls SECONDS SEED    calls for that long; prints how many, and how they ended
+ *   fuzz stream SEED           writes records, damaged and cut, for the record program
+ */
+#define _DEFAULT_SOURCE
+#include "grenhyrna.h"
+
+#include <stdio.h>
+#include <stdlib.h>
+#include <string.h>
+#include <sys/mman.h>
+#include <time.h>
+#include <unistd.h>
+
+static uint64_t state;
+
+static uint32_t next(void)
+{
+    state ^= state << 13;
+    state ^= state >> 7;
+    state ^= state << 17;
+    return (uint32_t)(state >> 16);
+}
+
+static unsigned below(unsigned n)
+{
+    return n ? next() % n : 0;
+}
+
+static int chance(unsigned one_in)
+{
+    return below(one_in) == 0;
+}
+
+enum { LENGTHS, POINTS, INPUT, RESULT, FLAGS, SPACE, BUFFERS };
+
+static struct buffer {
+    uint8_t *room, *at, *copy;
+    size_t size, length;
+} buffers[BUFFERS];
+
+static void make_rooms(void)
+{
+    size_t page = (size_t)sysconf(_SC_PAGESIZE);
+    for (int i = 0; i < BUFFERS; i++) {
+        struct buffer *b = &buffers[i];
+        b->size = i == SPACE ? 16 * 4096 : 4096;
+        b->size = (b->size + page - 1) / page * page;
+        uint8_t *all = mmap(NULL, b->size + 2 * page, PROT_NONE, MAP_PRIVATE | MAP_ANONYMOUS, -1, 0);
+        b->copy = malloc(b->size);
+        if (all == MAP_FAILED || !b->copy || mprotect(all + page, b->size, PROT_READ | PROT_WRITE)) {
+            fprintf(stderr, "fuzz: no memory\n");
+            exit(2);
+        }
+        b->room = all + page;
+    }
+}
+
+static void lay(int i, size_t length, unsigned symbols)
+{
+    struct buffer *b = &buffers[i];
+    b->length = length;
+    b->at = chance(2) ? b->room : b->room + b->size - length;
+    for (size_t k = 0; k < b->size; k += 8) {
+        uint64_t noise = (uint64_t)next() << 32 | next();
+        memcpy(b->room + k, &noise, 8);
+    }
+    for (size_t k = 0; k < length && i != SPACE; k++)
+        b->at[k] = (uint8_t)below(chance(200) ? 256 : symbols);
+    memcpy(b->copy, b->room, b->size);
+}
+
+static int as_lent(int i)
+{
+    return !memcmp(buffers[i].copy, buffers[i].room, buffers[i].size);
+}
+
+/* Nothing outside the buffer changed. */
+static int inside(int i)
+{
+    struct buffer *b = &buffers[i];
+    size_t front = (size_t)(b->at - b->room), back = front + b->length;
+    return !memcmp(b->copy, b->room, front) && !memcmp(b->copy + back, b->room + back, b->size - back);
+}
+
+static int space_cleared(void)
+{
+    struct buffer *b = &buffers[SPACE];
+    size_t front = (size_t)(b->at - b->room);
+    for (size_t k = 0; k < GREN_SPACE; k++)
+        if (b->at[k])
+            return 0;
+    return !memcmp(b->copy, b->room, front)
+           && !memcmp(b->copy + front + GREN_SPACE, b->at + GREN_SPACE, b->size - front - GREN_SPACE);
+}
+
+static size_t any_length(size_t right, size_t most)
+{
+    size_t length = chance(12) ? below((unsigned)most + 1) : right;
+    return length <= most ? length : most;
+}
+
+static unsigned long ends[5], refused, done;
+
+static int decoded(uint32_t r)
+{
+    uint32_t code = gren_code(r), detail = gren_detail(r);
+    int ok = code <= GREN_HOLLOW && inside(RESULT) && inside(FLAGS) && as_lent(INPUT) && as_lent(POINTS) && as_lent(LENGTHS);
+    if (code == GREN_REFUSED)
+        ok &= detail >= 1 && detail <= 11 && detail != 9 && as_lent(SPACE);
+    else
+        ok &= space_cleared();
+    if (code != GREN_CORRECTED)
+        ok &= as_lent(RESULT) && as_lent(FLAGS);
+    if (ok)
+        ends[code]++;
+    return ok;
+}
+
+static int coded(uint32_t r)
+{
+    int ok = (r == GREN_DONE || (r >= 1 && r <= 11 && r != 8)) && as_lent(INPUT) && as_lent(POINTS) && as_lent(LENGTHS);
+    ok &= r == GREN_DONE ? inside(RESULT) : as_lent(RESULT);
+    if (ok && r == GREN_DONE)
+        done++;
+    else
+        refused++;
+    return ok;
+}
+
+static uint32_t any_number(uint32_t usual)
+{
+    return chance(15) ? (chance(2) ? below(600) : next()) : usual;
+}
+
+static int mark(int call)
+{
+    static const uint32_t degrees[] = {2, 4, 8};
+    uint32_t degree = degrees[below(3)];
+    unsigned symbols = 1u << degree;
+    size_t most = symbols < 96 ? symbols : 96, columns = 1 + below((unsigned)most), rows = 1 + below(4), total = 0;
+    lay(LENGTHS, any_length(rows, 300), 1 + (unsigned)columns);
+    lay(POINTS, any_length(columns, 300), symbols);
+    struct buffer *ks = &buffers[LENGTHS], *xs = &buffers[POINTS], *y = &buffers[INPUT], *a = &buffers[RESULT];
+    for (size_t i = 0; i < xs->length && !chance(20); i++)
+        xs->at[i] = (uint8_t)i;
+    memcpy(xs->copy, xs->room, xs->size);
+    for (size_t l = 0; l < ks->length; l++) {
+        if (!ks->at[l] && !chance(20))
+            ks->at[l] = 1;
+        total += ks->at[l];
+    }
+    memcpy(ks->copy, ks->room, ks->size);
+    size_t cells = rows * columns;
+    uint32_t asked = any_number(degree);
+    if (call == 0) {
+        lay(INPUT, any_length(total, 1000), symbols);
+        lay(RESULT, any_length(cells, 1000), 256);
+        return coded(gren_mark_encode(asked, ks->at, ks->length, xs->at, xs->length, y->at, y->length, a->at, a->length));
+    }
+    lay(INPUT, any_length(cells, 1000), chance(3) ? 1 : chance(3) ? 2 : symbols);
+    if (call == 1) {
+        lay(RESULT, any_length(total, 1000), 256);
+        return coded(gren_mark_read(asked, ks->at, ks->length, xs->at, xs->length, y->at, y->length, a->at, a->length));
+    }
+    lay(RESULT, any_length(cells, 1000), 256);
+    lay(FLAGS, any_length(columns, 300), 256);
+    lay(SPACE, chance(12) ? below(16 * 4096) : GREN_SPACE + below(100), 256);
+    return decoded(gren_mark_decode(asked, ks->at, ks->length, xs->at, xs->length, any_number(below((unsigned)columns)), y->at,
+                                    y->length, a->at, a->length, buffers[FLAGS].at, buffers[FLAGS].length, buffers[SPACE].at,
+                                    buffers[SPACE].length));
+}
+
+static int ring(int call)
+{
+    uint32_t q = chance(2) ? 2 : 4, size = q * q * q, m = q * q - 1 + below(size - q * q + 1);
+    size_t total = 0;
+    for (uint32_t j = 0; j < q; j++)
+        total += (m - j * (q + 1)) / q + 1;
+    lay(LENGTHS, 0, 1);
+    lay(POINTS, 0, 1);
+    struct buffer *y = &buffers[INPUT], *a = &buffers[RESULT];
+    uint32_t asked = any_number(q), order = any_number(m);
+    lay(INPUT, any_length(call == 0 ? total : size, 300), chance(3) ? 1 : q * q);
+    lay(RESULT, any_length(call == 1 ? total : size, 300), 256);
+    if (call == 0)
+        return coded(gren_ring_encode(asked, order, y->at, y->length, a->at, a->length));
+    if (call == 1)
+        return coded(gren_ring_read(asked, order, y->at, y->length, a->at, a->length));
+    lay(FLAGS, any_length(q * q, 300), 256);
+    lay(SPACE, chance(12) ? below(16 * 4096) : GREN_SPACE + below(100), 256);
+    return decoded(gren_ring_decode(asked, order, any_number(below(8)), y->at, y->length, a->at, a->length, buffers[FLAGS].at,
+                                    buffers[FLAGS].length, buffers[SPACE].at, buffers[SPACE].length));
+}
+
+static int calls(double seconds, unsigned long seed)
+{
+    unsigned long n = 0;
+    struct timespec began, now;
+    make_rooms();
+    clock_gettime(CLOCK_MONOTONIC, &began);
+    do {
+        for (int i = 0; i < 100; i++, n++) {
+            int call = (int)below(3);
+            if (!(chance(3) ? ring(call) : mark(call))) {
+                printf("fuzz: seed %lu, call %lu: a number or a buffer is not as promised\n", seed, n);
+                return 1;
+            }
+        }
+        clock_gettime(CLOCK_MONOTONIC, &now);
+    } while ((double)(now.tv_sec - began.tv_sec) + (double)(now.tv_nsec - began.tv_nsec) / 1e9 < seconds);
+    printf("fuzz: seed %lu: %lu calls: %lu done, %lu refused; of the decodings %lu corrected, %lu none, %lu several, %lu hollow, "
+           "%lu refused\n",
+           seed, n, done, refused, ends[1], ends[2], ends[3], ends[4], ends[0]);
+    return 0;
+}
+
+/* A run of records: whole ones with any contents, most with a small field and few columns, and at the end perhaps a cut. */
+static int stream(void)
+{
+    for (unsigned n = below(40); n; n--) {
+        unsigned rows = 1 + below(4), columns = 1 + below(chance(4) ? 96 : 9), size = rows + 1 + columns + rows * columns;
+        uint8_t head[5] = {0x42, 0x4D, chance(9) ? (uint8_t)next() : 4, (uint8_t)rows, (uint8_t)columns};
+        for (int i = 0; i < 5; i++)
+            if (chance(150))
+                head[i] = (uint8_t)next();
+        fwrite(head, 1, 5, stdout);
+        if (n == 1 && chance(2))
+            size = below(size);
+        for (unsigned i = 0; i < size; i++)
+            putchar((int)(i < rows ? 1 + below(columns) : i == rows ? below(4) : i <= rows + columns && !chance(60) ? i - rows - 1 : below(chance(99) ? 256 : chance(2) ? 2 : 16)));
+    }
+    return 0;
+}
+
+int main(int argc, char **argv)
+{
+    if (argc == 4 && !strcmp(argv[1], "calls")) {
+        state = 0x9E3779B97F4A7C15u ^ strtoul(argv[3], NULL, 10) << 1;
+        return calls(strtod(argv[2], NULL), strtoul(argv[3], NULL, 10));
+    }
+    if (argc == 3 && !strcmp(argv[1], "stream")) {
+        state = 0xD1B54A32D192ED03u ^ strtoul(argv[2], NULL, 10) << 1;
+        return stream();
+    }
+    fprintf(stderr, "usage: fuzz calls SECONDS SEED | fuzz stream SEED\n");
+    return 2;
+}
