@@ -2,7 +2,7 @@
 -- call is given.
 --
 --   answers-unique    where no two ends of the call keep its promise, neither do two numbers
---   mark-encode, mark-read, mark-decode    so of each function
+--   mark-encode, mark-read, mark-decode, ring-encode, ring-read, ring-decode    so of each function
 -- Assumes nothing.
 use mathlib.Core.Path.{_≡_, sym, ap, _∙_}
 use mathlib.Core.List.{List}
@@ -15,6 +15,8 @@ use Rattle.ending.specs.Endings.{packed, Buffers}
 use Rattle.ending.specs.declared.Ending.{Ending}
 use Rattle.joint.specs.Promises as joint
 use Rattle.joint.proofs.Unique as joint-unique
+use Rattle.ring.specs.Promises as rings
+use Rattle.ring.proofs.Unique as ring-unique
 use Rattle.firmware.specs.Answers.{Answers}
 
 module _ {E B : Type 0} (number : E → ℕ) (Keeps : E → B → Type 0)
@@ -52,3 +54,18 @@ pub mark-decode : (g : joint.Given) {r r′ : ℕ} {b b′ : Kept} → Answers p
     → Answers packed (λ (e : Ending). joint.Decodes g (ended e b′)) r′ → (r ≡ r′) × (b ≡ b′)
 mark-decode g =
     answers-unique packed (λ (e : Ending) (b : Kept). joint.Decodes g (ended e b)) (λ e e′ b b′ h h′. ended-parts (joint-unique.unique g (ended e b) (ended e′ b′) h h′))
+
+pub ring-encode : (q m : ℕ) (f lent : List ℕ) {r r′ : ℕ} {b b′ : List ℕ} → Answers numberOf (λ (o : Outcome). rings.Encodes q m f lent (left o b)) r
+    → Answers numberOf (λ (o : Outcome). rings.Encodes q m f lent (left o b′)) r′ → (r ≡ r′) × (b ≡ b′)
+ring-encode q m f lent =
+    answers-unique numberOf (λ (o : Outcome) (b : List ℕ). rings.Encodes q m f lent (left o b)) (λ o o′ b b′ h h′. parts (ring-unique.encodes-unique q m f lent h h′))
+
+pub ring-read : (q m : ℕ) (w lent : List ℕ) {r r′ : ℕ} {b b′ : List ℕ} → Answers numberOf (λ (o : Outcome). rings.Reads q m w lent (left o b)) r
+    → Answers numberOf (λ (o : Outcome). rings.Reads q m w lent (left o b′)) r′ → (r ≡ r′) × (b ≡ b′)
+ring-read q m w lent =
+    answers-unique numberOf (λ (o : Outcome) (b : List ℕ). rings.Reads q m w lent (left o b)) (λ o o′ b b′ h h′. parts (ring-unique.reads-unique q m w lent h h′))
+
+pub ring-decode : (g : rings.Given) {r r′ : ℕ} {b b′ : Kept} → Answers packed (λ (e : Ending). rings.Decodes g (ended e b)) r
+    → Answers packed (λ (e : Ending). rings.Decodes g (ended e b′)) r′ → (r ≡ r′) × (b ≡ b′)
+ring-decode g =
+    answers-unique packed (λ (e : Ending) (b : Kept). rings.Decodes g (ended e b)) (λ e e′ b b′ h h′. ended-parts (ring-unique.decodes-unique g h h′))

@@ -5,6 +5,7 @@ ghost use Rattle.mark.specs.Code.{codeOf};
 ghost use Rattle.mark.specs.Promises.{numberOf, Encodes, Reads, left};
 ghost use Rattle.ending.specs.Endings.{packed};
 ghost use Rattle.joint.specs.Promises.{Decodes, buffers, given, left as ended};
+ghost use Rattle.ring.specs.Promises as rings;
 use ending::Ending;
 use mark::Outcome;
 
@@ -85,4 +86,38 @@ pub extern "C" fn gren_mark_decode(
         flags,
         space,
     ))
+}
+
+// Writes the word of H(m) of a message.
+#[no_mangle]
+pub extern "C" fn gren_ring_encode(q: u32, m: u32, message: &[u8], word: &mut [u8]) -> u32
+    ensures { λ r. ⌜ Answers numberOf (λ o. rings.Encodes q m (now (message .entry)) (now (word .entry)) (left o (now (word .exit)))) r ⌝ }
+{
+    number(ring::encode(q, m, message, word))
+}
+
+// Writes the message of a word of H(m).
+#[no_mangle]
+pub extern "C" fn gren_ring_read(q: u32, m: u32, word: &[u8], message: &mut [u8]) -> u32
+    ensures { λ r. ⌜ Answers numberOf (λ o. rings.Reads q m (now (word .entry)) (now (message .entry)) (left o (now (message .exit)))) r ⌝ }
+{
+    number(ring::read(q, m, word, message))
+}
+
+// Decodes a received ring up to the trial limit.
+#[no_mangle]
+pub extern "C" fn gren_ring_decode(
+    q: u32,
+    m: u32,
+    limit: u32,
+    received: &[u8],
+    answer: &mut [u8],
+    flags: &mut [u8],
+    space: &mut [u8],
+) -> u32
+    ensures { λ r. ⌜ Answers packed (λ e. rings.Decodes
+        (rings.given q m limit (now (received .entry)) (buffers (now (answer .entry)) (now (flags .entry))) (now (space .entry)))
+        (ended e (buffers (now (answer .exit)) (now (flags .exit))) (now (space .exit)))) r ⌝ }
+{
+    pack(ring::decode(q, m, limit, received, answer, flags, space))
 }

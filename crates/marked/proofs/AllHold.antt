@@ -1,4 +1,4 @@
--- The marked examples hold: antt computes the products, the encoding, the checks and the decoder's model.
+-- The marked examples hold: antt computes the products, the encoding, the checks, the decoder's model, and the ring's points and word.
 --
 --   Computes x    what antt computes of an example; holds, that it is enough
 --   all-hold      the claim
@@ -26,7 +26,11 @@ use Rattle.basis.proofs.Lines.{keep, least, another, size, unit, startRows, sta
 use Rattle.ending.specs.Endings.{Buffers}
 use Rattle.ending.proofs.Model.{right, reducedRows, filledRow, filledIn, filledRows, beyond, divided, alone, within, lowest, decided}
 use Rattle.ending.proofs.ModelExactly.{ends-exactly}
-use Rattle.marked.specs.Marked.{Example, Lent, Holds, marked, product, encoding, decoding, refusal}
+use Rattle.ring.specs.Ring.{numbers, ringPoints, ringLength, ringWord}
+use Rattle.ring.specs.Checks.{badSize, badOrder}
+use Rattle.ring.specs.Checks as Ring
+use Rattle.ring.proofs.Figures.{p9, p10}
+use Rattle.marked.specs.Marked.{Example, Lent, Holds, marked, product, encoding, decoding, refusal, points, word}
 
 -- the checks of decoding, with buffers of the right lengths
 abbrev inputChecks : Code → ℕ → List ℕ → List Check
@@ -58,6 +62,8 @@ Computes (product degree a b answer) = Answers (checks degree a b) (times degree
 Computes (encoding c m a) = (first (encodeChecks c m a) ≡ 0) × (encoded c m ≡ a)
 Computes (decoding c τ y e left) = (first (inputChecks c τ y) ≡ 0) × ((lent : Buffers) → decided c y τ lent ≡ (e, left lent))
 Computes (refusal c τ y k) = first (inputChecks c τ y) ≡ k
+Computes (points q ps) = ringPoints q ≡ ps
+Computes (word q m f w) = (first (Ring.encodeChecks q m f w) ≡ 0) × (ringWord q m f ≡ w)
 
 holds : (x : Example) → Computes x → Holds x
 unfolding Holds
@@ -67,6 +73,8 @@ holds (decoding c τ y e left) (h, d) = λ lent w l.
     let passes : first (decodeChecks c τ y (lent .array) (lent .flags) w) ≡ 0 = lent-right c τ y lent w l ∙ h in
     (passes, ends-exactly c τ y w lent passes (e, left lent) .1 (d lent))
 holds (refusal c τ y k) h = λ lent w l. lent-right c τ y lent w l ∙ h
+holds (points q ps) h = h
+holds (word q m f w) h = h
 
 infixr 10 _&_
 abbrev _&_ : {P Q : Type 0} → P → Q → P × Q
@@ -79,6 +87,7 @@ unfolding marked
     value valuesAt add scale apart reduce newtonValue encodedRows flagsFrom zip zipWith
     mix Pivot.lower Pivot.better Pivot.lowest keep least another size unit startRows start lifted fix-by fix step-by step run solve cut
     right reducedRows filledRow filledIn filledRows beyond divided alone within lowest decided
+    numbers ringLength badSize badOrder
 all-compute =
     refl
     & refl
@@ -92,6 +101,8 @@ all-compute =
     & (refl, λ lent. refl)
     & refl
     & (refl, λ lent. refl)
+    & p9
+    & (refl, p10)
     & tt
 
 pub all-hold : All Holds marked

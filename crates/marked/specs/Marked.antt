@@ -2,7 +2,7 @@
 --
 --   Example    what an example says, of one call
 --   Holds      that the definitions say the same
---   marked     P1 to P8, in order
+--   marked     P1 to P10, in order
 use mathlib.Core.Path.{_≡_}
 use mathlib.Core.List.{List, [], _∷_}
 use Prim.Native.Nat.{ℕ, _*_, _≤_}
@@ -16,6 +16,8 @@ use Rattle.mark.specs.Checks.{encodeChecks, decodeChecks, spaceBytes}
 use Rattle.ending.specs.Endings.{Buffers, Ends}
 use Rattle.ending.specs.declared.Ending.{Ending}
 use Rattle.ending.specs.declared.Ending.the-variants.{Corrected, Nothing, Several, Hollow}
+use Rattle.ring.specs.Ring.{ringPoints, ringWord}
+use Rattle.ring.specs.Checks as Ring
 
 pub data Example : Type 0 where
   -- the product of a and b
@@ -26,6 +28,10 @@ pub data Example : Type 0 where
   decoding : Code → (τ : ℕ) (received : List ℕ) → Ending → (Buffers → Buffers) → Example
   -- a decoding that is refused, and its number
   refusal : Code → (τ : ℕ) (received : List ℕ) → ℕ → Example
+  -- the points of a ring
+  points : (q : ℕ) → List (ℕ × ℕ) → Example
+  -- the word of H(m) of a message
+  word : (q m : ℕ) (message word : List ℕ) → Example
 
 -- array, flags and working space are lent at their right lengths
 pub record Lent (c : Code) (lent : Buffers) (w : List ℕ) : Type 0 where
@@ -40,6 +46,8 @@ Holds (decoding c τ y e left) = (lent : Buffers) (w : List ℕ) → Lent c lent
     → (first (decodeChecks c τ y (lent .array) (lent .flags) w) ≡ 0) × Ends c y τ lent e (left lent)
 Holds (refusal c τ y k) = (lent : Buffers) (w : List ℕ) → Lent c lent w
     → first (decodeChecks c τ y (lent .array) (lent .flags) w) ≡ k
+Holds (points q ps) = ringPoints q ≡ ps
+Holds (word q m f w) = (first (Ring.encodeChecks q m f w) ≡ 0) × (ringWord q m f ≡ w)
 
 -- 'Decimal; GF(16) unless said.'
 abbrev pub gf16 : (points lengths : List ℕ) → Code
@@ -76,4 +84,8 @@ marked =
     -- 'P8: points 1 2 4 8 3, k=1 3, rows 6 6 6 6 6 and 0 0 13 5 0, τ=2: corrected, column 4 wrong, second row 0 0 13 5 2.'
     ∷ decoding (gf16 (1 ∷ 2 ∷ 4 ∷ 8 ∷ 3 ∷ []) (1 ∷ 3 ∷ [])) 2 (6 ∷ 6 ∷ 6 ∷ 6 ∷ 6 ∷ 0 ∷ 0 ∷ 13 ∷ 5 ∷ 0 ∷ []) (Corrected 1)
     (written (6 ∷ 6 ∷ 6 ∷ 6 ∷ 6 ∷ 0 ∷ 0 ∷ 13 ∷ 5 ∷ 2 ∷ []) (0 ∷ 0 ∷ 0 ∷ 0 ∷ 1 ∷ []))
+    -- 'P9: q=2: the ring's points are 00 01 12 13 22 23 32 33.'
+    ∷ points 2 ((0, 0) ∷ (0, 1) ∷ (1, 2) ∷ (1, 3) ∷ (2, 2) ∷ (2, 3) ∷ (3, 2) ∷ (3, 3) ∷ [])
+    -- 'P10: H(3), f=y: 0 1 2 3 2 3 2 3.' k is 2 1: f_0 = 0 of two coefficients, and f_1 = 1
+    ∷ word 2 3 (0 ∷ 0 ∷ 1 ∷ []) (0 ∷ 1 ∷ 2 ∷ 3 ∷ 2 ∷ 3 ∷ 2 ∷ 3 ∷ [])
     ∷ []

@@ -1,1 +1,1 @@
-// The marked examples, P1 to P8: a list in specs/ under one claim, which proofs/ proves.
+// The marked examples, P1 to P10: a list in specs/ under one claim, which proofs/ proves.

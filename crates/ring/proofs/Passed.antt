@@ -2,6 +2,7 @@
 --
 --   ring-passed      what 10 and 11 leave, and the checks that follow
 --   PassedEncoding, PassedReading, PassedDecoding    what the checks of a call leave; encoding, reading, decoding, from them
+--   reads-on         a ring passes the checks of reading
 --   to-encode, to-read, to-decode    then no check of the call on the array applies
 -- Assumes nothing.
 use mathlib.Core.Path.{_≡_, refl, sym, ap, _∙_}
@@ -93,14 +94,23 @@ decoding q m τ y w f s e =
       limit = ltb-false (jointLimit (ringCode q m)) τ (clear 7 _ _ (p₇ .1) .0);
     }
 
+is-right : (n : ℕ) (l : List ℕ) → length l ≡ n → wrongLength n l ≡ false
+is-right n l e = ap not (eq-eqb (length l) n e)
+
+-- a ring passes the checks of reading, with a buffer of the right length
+pub reads-on : {q m : ℕ} → Passed q m → (f w : List ℕ) → IsRing q w → length f ≡ total (ringLengths q m) → first (readChecks q m w f) ≡ 0
+reads-on {q} {m} p f w h l =
+    miss 10 _ _ (p .size)
+    ∙ miss 11 _ _ (p .order)
+    ∙ miss 5 _ _ (neither (wrongLength (total (ringLengths q m)) f) (wrongLength (q * q * q) w) .1 (is-right _ f l, is-right _ w (h .count)))
+    ∙ miss 7 _ _ (symbols-test q w .1 (h .symbols))
+    ∙ unfold first in refl
+
 -- ---- the checks of the call on the array
 
 inside : (lo hi n : ℕ) → lo ≤ n → n ≤ hi → outside lo hi n ≡ false
 unfolding outside
 inside lo hi n l h = neither _ _ .1 (le-ltb n lo l, le-ltb hi n h)
-
-is-right : (n : ℕ) (l : List ℕ) → length l ≡ n → wrongLength n l ≡ false
-is-right n l e = ap not (eq-eqb (length l) n e)
 
 -- the checks 1 to 4 of a code whose counts are within the limits do not apply
 counted : (c : Code) (ds : List Check) → Counts c → first (codeChecks c ++ ds) ≡ first ds

@@ -11,9 +11,10 @@ use Rattle.mark.specs.Promises.{Left, done}
 use Rattle.ending.specs.Endings.{Buffers, Ends}
 use Rattle.ending.specs.declared.Ending.{Ending}
 use Rattle.ending.proofs.Unique.{unique}
+use Rattle.joint.specs.Promises as Joint
 use Rattle.ring.specs.Ring.{ringCode}
 use Rattle.ring.specs.Checks.{encodeChecks, readChecks, decodeChecks}
-use Rattle.ring.specs.Promises.{EncodesBy, Encodes, ReadsBy, Reads, Lent, Ended, carriedBack, RingEnds, DecodesBy, Decodes}
+use Rattle.ring.specs.Promises.{EncodesBy, Encodes, ReadsBy, Reads, Given, carriedBack, RingEnds, DecodesBy, Decodes}
 use Rattle.ring.proofs.Sizes.{ring-proper}
 use Rattle.ring.proofs.Rings.{array-exactly}
 use Rattle.ring.proofs.Words.{array-ring, one-message}
@@ -39,29 +40,28 @@ module _ (q m : ℕ) (w lent : List ℕ) {left left′ : Left} where
   pub reads-unique : Reads q m w lent left → Reads q m w lent left′ → left ≡ left′
   reads-unique = reads-by (first (readChecks q m w lent)) (reading q m w lent)
 
-same-ended : {a b : Ended} → a .ending ≡ b .ending → a .left .buffers ≡ b .left .buffers → a .left .space ≡ b .left .space → a ≡ b
-same-ended p r s i = record { ending = p i; left = record { buffers = r i; space = s i } }
-
-module _ (q m τ : ℕ) (y : List ℕ) (lent : Lent) where
+module _ (g : Given) where
   abbrev Passes : Type 0
-  Passes = PassedDecoding q m τ y (lent .buffers .array) (lent .buffers .flags) (lent .space)
+  Passes = PassedDecoding (g .q) (g .m) (g .limit) (g .received) (g .lent .array) (g .lent .flags) (g .space)
 
-  ends-unique : Passes → {e e′ : Ending} {left left′ : Buffers} → RingEnds q m τ y (lent .buffers) e left
-      → RingEnds q m τ y (lent .buffers) e′ left′ → (e ≡ e′) × (left ≡ left′)
-  ends-unique p {e} {e′} h g =
-      let one = array-exactly q (p .ring .size) (p .received) in
-      let same : h .array ≡ g .array = sym (one (h .array) .0 (h .is-array)) ∙ one (g .array) .0 (g .is-array) in
-      let ends : Ends (ringCode q m) (g .array) τ (lent .buffers) e (h .answer) =
-      subst (λ (a : List ℕ). Ends (ringCode q m) a τ (lent .buffers) e (h .answer)) same (h .ends) in
-      let u = unique (ring-proper q m (p .ring .size) (p .ring .order)) (array-ring q m .1 (g .is-array .array)) τ (p .limit)
-      e e′ (lent .buffers) (h .answer) (g .answer) ends (g .ends) in
-      (u .0, h .back ∙ ap₂ (carriedBack q) (u .0) (u .1) ∙ sym (g .back))
+  ends-unique : Passes → {e e′ : Ending} {left left′ : Buffers} → RingEnds (g .q) (g .m) (g .limit) (g .received) (g .lent) e left
+      → RingEnds (g .q) (g .m) (g .limit) (g .received) (g .lent) e′ left′ → (e ≡ e′) × (left ≡ left′)
+  ends-unique p {e} {e′} h k =
+      let one = array-exactly (g .q) (p .ring .size) (p .received) in
+      let same : h .array ≡ k .array = sym (one (h .array) .0 (h .is-array)) ∙ one (k .array) .0 (k .is-array) in
+      let ends : Ends (ringCode (g .q) (g .m)) (k .array) (g .limit) (g .lent) e (h .answer) =
+      subst (λ (a : List ℕ). Ends (ringCode (g .q) (g .m)) a (g .limit) (g .lent) e (h .answer)) same (h .ends) in
+      let u = unique (ring-proper (g .q) (g .m) (p .ring .size) (p .ring .order)) (array-ring (g .q) (g .m) .1 (k .is-array .array)) (g .limit)
+      (p .limit) e e′ (g .lent) (h .answer) (k .answer) ends (k .ends) in
+      (u .0, h .back ∙ ap₂ (carriedBack (g .q)) (u .0) (u .1) ∙ sym (k .back))
 
-  decodes-by : (k : ℕ) → (0 ≡ k → Passes) → {a b : Ended} → DecodesBy k q m τ y lent a → DecodesBy k q m τ y lent b → a ≡ b
-  decodes-by zero p h g = let u = ends-unique (p refl) (h .0) (g .0) in same-ended (u .0) (u .1) (h .1 ∙ sym (g .1))
-  decodes-by (suc k) p h g = h ∙ sym g
+  decodes-by : (k : ℕ) → (0 ≡ k → Passes) → {l l′ : Joint.Left} → DecodesBy k g l → DecodesBy k g l′ → l ≡ l′
+  decodes-by zero p h k =
+      let u = ends-unique (p refl) (h .0) (k .0) in
+      λ i. record { ending = u .0 i; buffers = u .1 i; space = (h .1 ∙ sym (k .1)) i }
+  decodes-by (suc k) p h k′ = h ∙ sym k′
 
-  pub decodes-unique : {a b : Ended} → Decodes q m τ y lent a → Decodes q m τ y lent b → a ≡ b
+  pub decodes-unique : {l l′ : Joint.Left} → Decodes g l → Decodes g l′ → l ≡ l′
   decodes-unique =
-      decodes-by (first (decodeChecks q m τ y (lent .buffers .array) (lent .buffers .flags) (lent .space)))
-      (decoding q m τ y (lent .buffers .array) (lent .buffers .flags) (lent .space))
+      decodes-by (first (decodeChecks (g .q) (g .m) (g .limit) (g .received) (g .lent .array) (g .lent .flags) (g .space)))
+      (decoding (g .q) (g .m) (g .limit) (g .received) (g .lent .array) (g .lent .flags) (g .space))

@@ -2,21 +2,21 @@
 --
 --   Encodes q m f lent left    encoding f with the buffer lent leaves left
 --   Reads q m w lent left      reading w with the buffer lent leaves left
---   Lent                       what a decoding is lent: the buffers for the answer and the flags, and the working space
---   Ended                      what it leaves: the ending, and the lent
---   Decodes q m τ y lent ended the decoding of y up to the trial limit τ leaves ended
+--   Given, given               what a decoding is given: q, m, the trial limit, the received ring, the buffers and the space lent
+--   carriedBack q e b          the answer of the array's decoding, carried back to the ring
+--   RingEnds q m τ y lent e left    the decoding of y, not refused, ends as e and turns the buffers lent into left
+--   Decodes g l                the decoding of g leaves l
 use mathlib.Core.Path.{_≡_}
 use mathlib.Core.Logic.{_⊎_}
 use mathlib.Core.List.{List}
 use Prim.Native.Nat.{ℕ, zero, suc}
-use Rattle.patch.specs.Patch.{patch}
 use Rattle.refusal.specs.Refusal.{first}
 use Rattle.mark.specs.Code.{IsMessage}
-use Rattle.mark.specs.Checks.{spaceBytes}
 use Rattle.mark.specs.Promises.{Left, done, refused}
 use Rattle.ending.specs.Endings.{Buffers, Ends}
 use Rattle.ending.specs.declared.Ending.{Ending}
 use Rattle.ending.specs.declared.Ending.the-variants.{Refused, Corrected, Nothing, Several, Hollow}
+use Rattle.joint.specs.Promises as Joint
 use Rattle.ring.specs.Ring.{ringCode, ringWord, RingWord, ringOf, ArrayOf}
 use Rattle.ring.specs.Checks.{encodeChecks, readChecks, decodeChecks}
 
@@ -37,13 +37,16 @@ ReadsBy (suc k) q m w lent left = left ≡ refused (suc k) lent
 abbrev pub Reads : ℕ → ℕ → List ℕ → List ℕ → Left → Type 0
 Reads q m w lent left = ReadsBy (first (readChecks q m w lent)) q m w lent left
 
-pub record Lent : Type 0 where
-  pub buffers : Buffers
+pub record Given : Type 0 where
+  pub q : ℕ
+  pub m : ℕ
+  pub limit : ℕ
+  pub received : List ℕ
+  pub lent : Buffers
   pub space : List ℕ
 
-pub record Ended : Type 0 where
-  pub ending : Ending
-  pub left : Lent
+abbrev pub given : (q m limit : ℕ) (received : List ℕ) (lent : Buffers) (space : List ℕ) → Given
+given q m τ y b s = record { q = q; m = m; limit = τ; received = y; lent = b; space = s }
 
 -- 'with the answer carried back': its ring; the flags of the columns are those of the sectors
 abbrev pub carriedBack : ℕ → Ending → Buffers → Buffers
@@ -61,16 +64,12 @@ pub record RingEnds (q m τ : ℕ) (y : List ℕ) (lent : Buffers) (e : Ending) 
   pub ends : Ends (ringCode q m) array τ lent e answer
   pub back : left ≡ carriedBack q e answer
 
--- 'its first 49,152 bytes are zero after each call that is not refused, bytes beyond that are never touched, and a refusal
--- touches none'
-unfoldable pub cleared : List ℕ → List ℕ
-cleared s = patch 0 spaceBytes (λ k. 0) s
+-- by the number of the first check that applies, 0 for none; 'a refusal touches none'
+abbrev pub DecodesBy : ℕ → Given → Joint.Left → Type 0
+DecodesBy zero g l =
+    RingEnds (g .q) (g .m) (g .limit) (g .received) (g .lent) (l .ending) (l .buffers) × (l .space ≡ Joint.cleared (g .space))
+DecodesBy (suc k) g l = l ≡ Joint.left (Refused (suc k)) (g .lent) (g .space)
 
-abbrev pub DecodesBy : ℕ → ℕ → ℕ → ℕ → List ℕ → Lent → Ended → Type 0
-DecodesBy zero q m τ y lent ended =
-    RingEnds q m τ y (lent .buffers) (ended .ending) (ended .left .buffers) × (ended .left .space ≡ cleared (lent .space))
-DecodesBy (suc k) q m τ y lent ended = ended ≡ record { ending = Refused (suc k); left = lent }
-
-abbrev pub Decodes : ℕ → ℕ → ℕ → List ℕ → Lent → Ended → Type 0
-Decodes q m τ y lent ended =
-    DecodesBy (first (decodeChecks q m τ y (lent .buffers .array) (lent .buffers .flags) (lent .space))) q m τ y lent ended
+abbrev pub Decodes : Given → Joint.Left → Type 0
+Decodes g l =
+    DecodesBy (first (decodeChecks (g .q) (g .m) (g .limit) (g .received) (g .lent .array) (g .lent .flags) (g .space))) g l

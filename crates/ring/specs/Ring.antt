@@ -14,6 +14,8 @@
 --   column r n a x       column x of an array of r rows of n symbols
 --   ringOf q a           the ring of an array of q rows and q² columns
 --   ArrayOf q w a        a is the array of the ring w
+--   differsIn q v w x    v and w differ in sector x
+--   sectorFlags q v w    of q² flags, 1 where they differ and 0 elsewhere; wrongSectors, how many
 use mathlib.Core.Path.{_≡_}
 use mathlib.Core.Bool.{Bool, cond}
 use mathlib.Core.List.{List, [], _∷_, _++_, map, flatMap}
@@ -23,7 +25,7 @@ use lib.ListN.{length, getD, take, drop}
 use Rattle.field.specs.Symbols.{IsSymbol, plus, times}
 use Rattle.field.specs.Arithmetic.{gf}
 use Rattle.poly.specs.Poly.{All, value, valuesAt}
-use Rattle.mark.specs.Code.{Code, codeOf, IsMessage}
+use Rattle.mark.specs.Code.{Code, codeOf, total, IsMessage, differs, flagsFrom}
 
 unfoldable pub numbers : ℕ → List ℕ
 numbers zero = []
@@ -89,3 +91,15 @@ ringOf q a = flatMap (λ x. valuesAt (gf q) (sector q x) (column q (q * q) a x))
 pub record ArrayOf (q : ℕ) (w a : List ℕ) : Type 0 where
   pub array : IsRing q a
   pub ring : ringOf q a ≡ w
+
+-- 'Two arrays differ in a column if any row differs there': two rings differ in a sector if any of its symbols does, which are the q
+-- from place x·q on
+abbrev pub differsIn : ℕ → List ℕ → List ℕ → ℕ → Bool
+differsIn q v w x = differs q 1 (x * q) v w
+
+-- 'q² flags'
+abbrev pub sectorFlags : ℕ → List ℕ → List ℕ → List ℕ
+sectorFlags q v w = flagsFrom (differsIn q v w) 0 (q * q)
+
+abbrev pub wrongSectors : ℕ → List ℕ → List ℕ → ℕ
+wrongSectors q v w = total (sectorFlags q v w)

@@ -97,9 +97,9 @@ pub(crate) fn read_refusal(q: u32, m: u32, word: &[u8], room: usize) -> u8
     buffers_refusal(q, m, room, word.len(), word)
 }
 
-// For decoding: the first check that applies, 0 where none does. Of the buffers for the answer, the flags and the working space
+// The first check of decoding that applies, 0 where none does. Of the buffers for the answer, the flags and the working space
 // the checks read the lengths alone.
-pub fn decode_refusal(
+pub(crate) fn decode_refusal(
     q: u32,
     m: u32,
     limit: u32,
@@ -116,8 +116,9 @@ pub fn decode_refusal(
         return k;
     }
     let n = shape::side(q);
-    let right = n * n * n;
-    if (received.len() != right) | (answer != right) | (flags != n * n) | (space < 49152) {
+    let sectors = n * n;
+    let right = sectors * n;
+    if (received.len() != right) | (answer != right) | (flags != sectors) | (space < 49152) {
         return 5;
     }
     if refusal::some_outside_field(q, received) {

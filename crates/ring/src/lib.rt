@@ -1,15 +1,22 @@
-// Hermitian rings: encoding and reading.
+// Hermitian rings: encoding, reading and decoding.
 ghost use mathlib.Core.Path.{_≡_};
+ghost use mathlib.Core.Bool.{false};
+ghost use mathlib.Core.List.{List};
+ghost use Prim.Native.Nat.{ℕ, _*_};
+ghost use lib.ListN.{length};
 ghost use Rattle.refusal.specs.Refusal.{first};
 ghost use Rattle.mark.specs.Promises.{left};
-ghost use Rattle.ring.specs.Ring.{ringWord};
-ghost use Rattle.ring.specs.Checks.{encodeChecks, readChecks};
-ghost use Rattle.ring.specs.Promises.{Encodes, Reads};
+ghost use Rattle.joint.specs.Promises as Joint;
+ghost use Rattle.joint.specs.Working.{released};
+ghost use Rattle.ring.specs.Ring.{IsRing, ringOf, ringWord};
+ghost use Rattle.ring.specs.Checks.{badSize, decodeChecks, encodeChecks, readChecks};
+ghost use Rattle.ring.specs.Promises.{Decodes, Encodes, Reads, RingEnds, given};
 
 mod carry;
-pub mod checks;
+mod checks;
 mod shape;
 
+use ending::Ending;
 use mark::Outcome;
 
 // Writes the word of a message that passed the checks: the ring of its code array.
@@ -60,4 +67,86 @@ pub fn read(q: u32, m: u32, word: &[u8], message: &mut [u8]) -> Outcome
         return Outcome::Refused(k);
     }
     read_word(q, m, word, message)
+}
+
+// Carries the answer of the array's decoding back to the ring lent, on `corrected` alone.
+fn carry_back(ending: Ending, q: u32, own: &[u8], answer: &mut [u8])
+    requires { ⌜ (badSize q ≡ false) × (length (now answer) ≡ q * q * q) × ((w : ℕ) → ending ≡ Ending.Corrected w → IsRing q (now own)) ⌝ }
+    ensures { λ _. ⌜ ((f : List ℕ) → Joint.buffers (now (answer .exit)) f
+        ≡ released ending (Joint.buffers (ringOf q (now (own .entry))) f) (Joint.buffers (now (answer .entry)) f)) ⌝ }
+{
+    match ending {
+        Ending::Refused(_) => {}
+        Ending::Corrected(_) => {
+            carry::to_ring(q, own, answer);
+        }
+        Ending::Nothing => {}
+        Ending::Several(_) => {}
+        Ending::Hollow(_) => {}
+    }
+}
+
+// Decodes a ring that passed the checks: its array, with the answer carried back.
+fn decode_ring(
+    q: u32,
+    m: u32,
+    limit: u32,
+    received: &[u8],
+    answer: &mut [u8],
+    flags: &mut [u8],
+    space: &mut [u8],
+) -> Ending
+    requires { ⌜ 0 ≡ first (decodeChecks q m limit (now received) (now answer) (now flags) (now space)) ⌝ }
+    ensures { λ r. ⌜ RingEnds q m limit (now (received .entry)) (Joint.buffers (now (answer .entry)) (now (flags .entry)))
+        r (Joint.buffers (now (answer .exit)) (now (flags .exit)))
+        × (now (space .exit) ≡ Joint.cleared (now (space .entry))) ⌝ }
+{
+    let n = shape::side(q);
+    let ks = shape::lengths(q, m);
+    let xs = shape::columns(q);
+    let mut array = [0u8; 64];
+    let mut own = [0u8; 64];
+    carry::to_array(q, received, &mut array[..received.len()]);
+    let ending = joint::decode(
+        q,
+        &ks[..n],
+        &xs[..n * n],
+        limit,
+        &array[..received.len()],
+        &mut own[..received.len()],
+        flags,
+        space,
+    );
+    carry_back(ending, q, &own[..received.len()], answer);
+    ending
+}
+
+// Decodes a received ring: refusals 10, 11, 5, 7 and 8, which touch nothing; else the ending, on `corrected` with the word and the
+// flags of its wrong sectors written, and in every case with the first 49,152 bytes of the working space zero.
+pub fn decode(
+    q: u32,
+    m: u32,
+    limit: u32,
+    received: &[u8],
+    answer: &mut [u8],
+    flags: &mut [u8],
+    space: &mut [u8],
+) -> Ending
+    ensures { λ r. ⌜ Decodes
+        (given q m limit (now (received .entry)) (Joint.buffers (now (answer .entry)) (now (flags .entry))) (now (space .entry)))
+        (Joint.left r (Joint.buffers (now (answer .exit)) (now (flags .exit))) (now (space .exit))) ⌝ }
+{
+    let k = checks::decode_refusal(
+        q,
+        m,
+        limit,
+        received,
+        answer.len(),
+        flags.len(),
+        space.len(),
+    );
+    if k != 0 {
+        return Ending::Refused(k);
+    }
+    decode_ring(q, m, limit, received, answer, flags, space)
 }

@@ -1,16 +1,18 @@
 -- `checks::decode_refusal` is the number of the first check of decoding that applies.
 -- Assumes nothing.
 use mathlib.Core.Path.{_≡_, sym, _∙_}
+use mathlib.Core.Bool.{Bool, not, _||_}
 use mathlib.Core.List.{List, [], _∷_, _++_}
-use Prim.Native.Nat.{ℕ}
+use Prim.Native.Nat.{ℕ, _*_}
 use native.Mathlib.Omega.{arith}
-use lib.Dec.{ltb}
+use lib.Dec.{eqb, ltb}
 use lib.ListN.{length}
 use Rattle.refusal.specs.Refusal.{Check, _when_, first, someOutsideField}
 use borrow.Author.Tests.{lt-ltb, le-ltb}
 use Rattle.refusal.proofs.Laws.{hit, miss}
 use Rattle.mark.proofs.Passed.{stopped, passed-on}
 use Rattle.mark.specs.Code.{jointLimit}
+use Rattle.mark.specs.Checks.{wrongLength, spaceBytes}
 use Rattle.ring.specs.Ring.{ringCode}
 use Rattle.ring.specs.Checks.{ringChecks, decodeChecks}
 use Rattle.ring.proofs.Sizes.{bounds}
@@ -27,6 +29,13 @@ passed c = ring-passed (c .before .before .before .args .q) (c .before .before .
 onward : (c : tie.Else1) (ds : List Check) → first (ringChecks (c .before .before .before .args .q) (c .before .before .before .args .m) ++ ds) ≡ first ds
 onward c ds = passed-on (ringChecks (c .before .before .before .args .q) (c .before .before .before .args .m)) ds tt (c .before .ring-refusal .ensures) (c .if1 .left)
 
+-- the test of number 5 reads lengths alone; n is q as a count
+fifth : (q n : ℕ) → n ≡ q → (y w f s : List ℕ) {answer flags space : ℕ} {b : Bool}
+    → length w ≡ answer → length f ≡ flags → length s ≡ space
+    → (not (eqb (length y) (n * n * n)) || not (eqb answer (n * n * n)) || not (eqb flags (n * n)) || ltb space 49152) ≡ b
+    → (wrongLength (q * q * q) y || wrongLength (q * q * q) w || wrongLength (q * q) f || ltb (length s) spaceBytes) ≡ b
+fifth q n e y w f s p r u h = rw (p, r, u, ← e) h
+
 -- where 5 does not apply either, 7 and 8 are left
 module _ (c : tie.Else2) where
   abbrev start : tie.Start
@@ -35,7 +44,7 @@ module _ (c : tie.Else2) where
   seventh : (w f s : List ℕ) → length w ≡ start .args .answer → length f ≡ start .args .flags → length s ≡ start .args .space
       → first (decodeChecks (start .args .q) (start .args .m) (start .args .limit) (start .args .received .now) w f s)
       ≡ first ((7 when someOutsideField (start .args .q) (start .args .received .now)) ∷ (8 when ltb (jointLimit (ringCode (start .args .q) (start .args .m))) (start .args .limit)) ∷ [])
-  seventh w f s p r u = onward (c .before .before) _ ∙ miss _ _ _ (cc (c .if2 .left))
+  seventh w f s p r u = onward (c .before .before) _ ∙ miss _ _ _ (fifth _ _ (c .before .side .ensures) (start .args .received .now) w f s p r u (c .if2 .left))
 
 -- and where 7 does not, 8 is left
 eighth : (c : tie.Else3) (w f s : List ℕ) → length w ≡ start (c .before .before) .args .answer → length f ≡ start (c .before .before) .args .flags → length s ≡ start (c .before .before) .args .space
@@ -52,17 +61,14 @@ returns c w f s p r u = stopped _ _ (c .before .ring-refusal .ensures) (c .if1 .
 side-requires : tie.Need-side-requires
 side-requires c κs = search needs
 
+mul-sectors : tie.Need-mul-sectors
+mul-sectors c = omega (arith, sides (c .before .before .before .before .args .q) (c .side .result) (passed (c .before) .size) (c .side .ensures) .3)
+
 mul-right : tie.Need-mul-right
-mul-right c = omega (arith, sides (c .before .before .before .before .args .q) (c .side .result) (passed (c .before) .size) (c .side .ensures) .3)
-
-mul-right-2 : tie.Need-mul-right-2
-mul-right-2 c = omega (arith, sides (c .before .before .before .before .args .q) (c .side .result) (passed (c .before) .size) (c .side .ensures) .5, bounds (c .before .before .before .before .args .q) (passed (c .before) .size) .symbols)
-
-mul-if2 : tie.Need-mul-if2
-mul-if2 c = omega (arith, sides (c .before .before .before .before .args .q) (c .side .result) (passed (c .before) .size) (c .side .ensures) .3)
+mul-right c = omega (arith, sides (c .before .before .before .before .args .q) (c .side .result) (passed (c .before) .size) (c .side .ensures) .5, bounds (c .before .before .before .before .args .q) (passed (c .before) .size) .symbols)
 
 returns-2 : tie.Need-returns-2
-returns-2 c w f s p r u = sym (onward (c .before .before) _ ∙ hit _ _ _ (cc (c .if2 .taken)))
+returns-2 c w f s p r u = sym (onward (c .before .before) _ ∙ hit 5 _ _ (fifth _ _ (c .before .side .ensures) (c .before .before .before .before .before .args .received .now) w f s p r u (c .if2 .taken)))
 
 some-outside-field-requires : tie.Need-some-outside-field-requires
 some-outside-field-requires c κs = search needs
@@ -91,9 +97,8 @@ decode-refusal-spec =
     ring-refusal-requires
     returns
     side-requires
+    mul-sectors
     mul-right
-    mul-right-2
-    mul-if2
     returns-2
     some-outside-field-requires
     returns-3
