@@ -1,0 +1,59 @@
+-- The wrong decoders that 01 shuts out by name: none of them keeps the promise on the first of the three records, P4.
+--
+--   p4, p4-left         what the decoding of P4 is given, and what it leaves; p4-decodes, by the proved list
+--   none-to-everything, hollow-to-everything    'a decoder that says "none" or "hollow" to everything'
+--   zeros-as-corrected  'one that returns zeros as corrected'
+--   row-0-alone         'a decoder that repairs row 0 and copies the rest'
+--   invented-detail     'an invented detail'
+-- Assumes nothing.
+use mathlib.Core.Path.{_≡_, refl, ap}
+use mathlib.Core.List.{List, [], _∷_}
+use Prim.Native.Nat.{ℕ}
+use native.Mathlib.Omega.{arith}
+use lib.ListN.{getD}
+use Rattle.ending.specs.Endings.{Buffers, codeOf, detailOf}
+use Rattle.ending.specs.declared.Ending.{Ending}
+use Rattle.ending.specs.declared.Ending.the-variants.{Corrected, Nothing, Hollow}
+use Rattle.joint.specs.Promises.{Given, Left, given, left, buffers, cleared, Decodes}
+use Rattle.joint.proofs.Unique.{unique}
+use Rattle.marked.specs.Marked.{gf16, Lent, Holds, marked}
+use Rattle.marked.proofs.AllHold.{all-hold}
+
+-- buffers and working space as they may come, of the right lengths
+module _ (lent : Buffers) (space : List ℕ) (h : Lent (gf16 (1 ∷ 2 ∷ 4 ∷ 8 ∷ []) (1 ∷ 1 ∷ [])) lent space) where
+  abbrev pub p4 : Given
+  p4 = given (gf16 (1 ∷ 2 ∷ 4 ∷ 8 ∷ []) (1 ∷ 1 ∷ [])) 2 (5 ∷ 5 ∷ 4 ∷ 7 ∷ 9 ∷ 9 ∷ 10 ∷ 8 ∷ []) lent space
+
+  abbrev pub p4-left : Left
+  p4-left = left (Corrected 2) (buffers (5 ∷ 5 ∷ 5 ∷ 5 ∷ 9 ∷ 9 ∷ 9 ∷ 9 ∷ []) (0 ∷ 0 ∷ 1 ∷ 1 ∷ [])) (cleared space)
+
+  pub p4-decodes : Decodes p4 p4-left
+  unfolding Holds marked
+  p4-decodes = let p = all-hold .1 .1 .1 .1 .1 .1 .0 lent space h in rw (p .0) (p .1, refl)
+
+  -- what keeps the promise on P4 is what P4 leaves
+  only : (l : Left) → Decodes p4 l → l ≡ p4-left
+  only l d = unique p4 l p4-left d p4-decodes
+
+  ends-as : (e : Ending) (b : Buffers) (w : List ℕ) → Decodes p4 (left e b w) → e ≡ Corrected 2
+  ends-as e b w d = ap (λ (l : Left). l .ending) (only (left e b w) d)
+
+  holds-as : (e : Ending) (b : Buffers) (w : List ℕ) → Decodes p4 (left e b w) → b .array ≡ 5 ∷ 5 ∷ 5 ∷ 5 ∷ 9 ∷ 9 ∷ 9 ∷ 9 ∷ []
+  holds-as e b w d = ap (λ (l : Left). l .buffers .array) (only (left e b w) d)
+
+  pub none-to-everything : (b : Buffers) (w : List ℕ) → Decodes p4 (left Nothing b w) → ⊥
+  none-to-everything b w d = let z = ap codeOf (ends-as Nothing b w d) in omega (arith, z)
+
+  pub hollow-to-everything : (t : ℕ) (b : Buffers) (w : List ℕ) → Decodes p4 (left (Hollow t) b w) → ⊥
+  hollow-to-everything t b w d = let z = ap codeOf (ends-as (Hollow t) b w d) in omega (arith, z)
+
+  pub zeros-as-corrected : (k : ℕ) (f w : List ℕ) → Decodes p4 (left (Corrected k) (buffers (0 ∷ 0 ∷ 0 ∷ 0 ∷ 0 ∷ 0 ∷ 0 ∷ 0 ∷ []) f) w) → ⊥
+  zeros-as-corrected k f w d =
+      let z : _≡_ {A = ℕ} 0 5 = ap (λ (l : List ℕ). getD l 0 0) (holds-as (Corrected k) (buffers (0 ∷ 0 ∷ 0 ∷ 0 ∷ 0 ∷ 0 ∷ 0 ∷ 0 ∷ []) f) w d) in omega (arith, z)
+
+  pub row-0-alone : (k : ℕ) (f w : List ℕ) → Decodes p4 (left (Corrected k) (buffers (5 ∷ 5 ∷ 5 ∷ 5 ∷ 9 ∷ 9 ∷ 10 ∷ 8 ∷ []) f) w) → ⊥
+  row-0-alone k f w d =
+      let z : _≡_ {A = ℕ} 10 9 = ap (λ (l : List ℕ). getD l 6 0) (holds-as (Corrected k) (buffers (5 ∷ 5 ∷ 5 ∷ 5 ∷ 9 ∷ 9 ∷ 10 ∷ 8 ∷ []) f) w d) in omega (arith, z)
+
+  pub invented-detail : (k : ℕ) (b : Buffers) (w : List ℕ) → Decodes p4 (left (Corrected k) b w) → k ≡ 2
+  invented-detail k b w d = ap detailOf (ends-as (Corrected k) b w d)
