@@ -7,6 +7,7 @@
  */
 #define _DEFAULT_SOURCE
 #include "grenhyrna.h"
+#include "random.h"
 
 #include <stdio.h>
 #include <stdlib.h>
@@ -14,26 +15,6 @@
 #include <sys/mman.h>
 #include <time.h>
 #include <unistd.h>
-
-static uint64_t state;
-
-static uint32_t next(void)
-{
-    state ^= state << 13;
-    state ^= state >> 7;
-    state ^= state << 17;
-    return (uint32_t)(state >> 16);
-}
-
-static unsigned below(unsigned n)
-{
-    return n ? next() % n : 0;
-}
-
-static int chance(unsigned one_in)
-{
-    return below(one_in) == 0;
-}
 
 enum { LENGTHS, POINTS, INPUT, RESULT, FLAGS, SPACE, BUFFERS };
 

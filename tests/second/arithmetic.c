@@ -1,38 +1,13 @@
 /* Makes the stored input and output of the program `arithmetic`: every pair of GF(4) and GF(16), a sample of GF(256), and
- * refused calls. Products by shift and exclusive or from the polynomials of 01, quotients by search: no table, and nothing of the
- * proved code.
+ * refused calls.
  *
  *   arithmetic in FILE    writes the input
  *   arithmetic out FILE   writes the answers
  */
+#include "second.h"
+
 #include <stdio.h>
 #include <string.h>
-
-static unsigned modulus(unsigned degree)
-{
-    return degree == 2 ? 0x7 : degree == 4 ? 0x13 : 0x11D;
-}
-
-static unsigned product(unsigned degree, unsigned a, unsigned b)
-{
-    unsigned whole = 0;
-    for (unsigned i = 0; i < degree; i++)
-        if (b >> i & 1)
-            whole ^= a << i;
-    for (unsigned i = 2 * degree; i >= degree; i--)
-        if (whole >> i & 1)
-            whole ^= modulus(degree) << (i - degree);
-    return whole;
-}
-
-static unsigned quotient(unsigned degree, unsigned a, unsigned b)
-{
-    if (b != 0)
-        for (unsigned c = 0; c < 1u << degree; c++)
-            if (product(degree, c, b) == a)
-                return c;
-    return 0;
-}
 
 static void one(FILE *to, int wants_input, unsigned degree, unsigned a, unsigned b)
 {
@@ -46,7 +21,7 @@ static void one(FILE *to, int wants_input, unsigned degree, unsigned a, unsigned
     if (refused)
         fprintf(to, "!%d !%d !%d\n", refused, refused, refused);
     else
-        fprintf(to, "%u %u %u\n", a ^ b, product(degree, a, b), quotient(degree, a, b));
+        fprintf(to, "%u %u %u\n", a ^ b, second_product(degree, a, b), second_quotient(degree, a, b));
 }
 
 int main(int argc, char **argv)

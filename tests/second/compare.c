@@ -4,6 +4,7 @@
  *   compare [COUNT [SEED]]
  */
 #include "grenhyrna.h"
+#include "random.h"
 #include "second.h"
 
 #include <stdio.h>
@@ -11,26 +12,6 @@
 #include <string.h>
 
 enum { GUARD = 64, ROOM = 1024, SPARE = 200 };
-
-static uint64_t state;
-
-static uint32_t next(void)
-{
-    state ^= state << 13;
-    state ^= state >> 7;
-    state ^= state << 17;
-    return (uint32_t)(state >> 16);
-}
-
-static unsigned below(unsigned n)
-{
-    return n ? next() % n : 0;
-}
-
-static int chance(unsigned one_in)
-{
-    return below(one_in) == 0;
-}
 
 /* A buffer with guards, twice: for the library and for the second program. */
 struct buffer {
@@ -108,6 +89,10 @@ static uint32_t random_code(size_t *rows, size_t *columns, int small)
     *columns = 1 + below((unsigned)most);
     if (small && *columns > 12 && !chance(4))
         *columns = 4 + below(9);
+    if (small && degree == 8 && chance(200)) { /* the second program takes its time over these */
+        *rows = 1 + below(2);
+        *columns = 21 + below(76);
+    }
     fill(&lengths, *rows, 256);
     for (size_t l = 0; l < *rows; l++)
         own(&lengths, 0)[l] = (uint8_t)(1 + below(chance(2) ? (unsigned)*columns : ((unsigned)*columns + 2) / 3));
@@ -210,6 +195,8 @@ static int compare_mark_decoding(void)
         if (fits && chance(2))
             limit = second_joint_limit(own(&lengths, 0), rows, columns);
     }
+    if (columns > 20 && limit > 3)
+        limit = 1 + below(3);
     if (chance(50))
         limit += 1 + below(300);
     fill(&first, message_length(rows), symbols);

@@ -3,32 +3,13 @@
  *
  *   compared in|out FILE
  */
+#include "random.h"
 #include "second.h"
 
 #include <stdio.h>
 #include <string.h>
 
 enum { FRAME = 512, CALLS = 600, LENGTHS = 14, POINTS = 21, SYMBOLS = 118, SPACE_LESS = 49144 };
-
-static uint64_t state = 0x2545F4914F6CDD1Du;
-
-static uint32_t next(void)
-{
-    state ^= state << 13;
-    state ^= state >> 7;
-    state ^= state << 17;
-    return (uint32_t)(state >> 16);
-}
-
-static unsigned below(unsigned n)
-{
-    return n ? next() % n : 0;
-}
-
-static int chance(unsigned one_in)
-{
-    return below(one_in) == 0;
-}
 
 static uint8_t frame[FRAME];
 
@@ -199,6 +180,7 @@ int main(int argc, char **argv)
         perror(argv[2]);
         return 1;
     }
+    state = 0x2545F4914F6CDD1Du;
     for (unsigned i = 0; i < CALLS; i++) {
         memset(frame, 0, sizeof frame);
         if (i % 3 == 2)

@@ -1,42 +1,16 @@
 /* Makes the stored input and output of the program `desk_runs`: marks put together on a desk in several orders, damaged and
  * mended columns, refused puts and refused openings. The desk is written from 01's definitions: a row fits where the polynomial
- * through its first k symbols (Lagrange) has its other symbols as values. Products by shift and exclusive or, quotients by search:
- * no table, and nothing of the proved code.
+ * through its first k symbols (Lagrange) has its other symbols as values.
  *
  *   desk in FILE    writes the input
  *   desk out FILE   writes the answers
  */
+#include "second.h"
+
 #include <stdio.h>
 #include <string.h>
 
 enum { FRAME = 32, POINTS = 20, LENGTHS = 7 };
-
-/* ---- the fields */
-
-static unsigned modulus(unsigned degree)
-{
-    return degree == 2 ? 0x7 : degree == 4 ? 0x13 : 0x11D;
-}
-
-static unsigned product(unsigned degree, unsigned a, unsigned b)
-{
-    unsigned whole = 0;
-    for (unsigned i = 0; i < degree; i++)
-        if (b >> i & 1)
-            whole ^= a << i;
-    for (unsigned i = 2 * degree; i >= degree; i--)
-        if (whole >> i & 1)
-            whole ^= modulus(degree) << (i - degree);
-    return whole;
-}
-
-static unsigned quotient(unsigned degree, unsigned a, unsigned b)
-{
-    for (unsigned c = 0; c < 1u << degree; c++)
-        if (product(degree, c, b) == a)
-            return c;
-    return 0;
-}
 
 /* ---- the desk */
 
@@ -54,10 +28,10 @@ static unsigned through(const struct desk *d, unsigned row, unsigned y)
         unsigned above = d->symbol[row][i], below = 1;
         for (unsigned j = 0; j < d->k[row]; j++)
             if (j != i) {
-                above = product(d->degree, above, y ^ d->x[j]);
-                below = product(d->degree, below, d->x[i] ^ d->x[j]);
+                above = second_product(d->degree, above, y ^ d->x[j]);
+                below = second_product(d->degree, below, d->x[i] ^ d->x[j]);
             }
-        sum ^= quotient(d->degree, above, below);
+        sum ^= second_quotient(d->degree, above, below);
     }
     return sum;
 }
@@ -200,7 +174,7 @@ static void strike(void)
         for (unsigned i = 0; i < now.n; i++) {
             mark[i][l] = 0;
             for (unsigned j = now.k[l]; j-- > 0;)
-                mark[i][l] = product(now.degree, mark[i][l], now.x[i]) ^ message[j];
+                mark[i][l] = second_product(now.degree, mark[i][l], now.x[i]) ^ message[j];
         }
     }
 }

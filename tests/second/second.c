@@ -32,6 +32,11 @@ unsigned second_inverse(unsigned degree, unsigned a)
     return 0;
 }
 
+unsigned second_quotient(unsigned degree, unsigned a, unsigned b)
+{
+    return second_product(degree, a, second_inverse(degree, b));
+}
+
 static unsigned value(unsigned degree, const uint8_t *p, size_t count, unsigned x)
 {
     unsigned sum = 0, power = 1;

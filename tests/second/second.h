@@ -9,7 +9,9 @@
 enum { SECOND_SPACE = 49152 };
 
 unsigned second_product(unsigned degree, unsigned a, unsigned b);
+/* by search; 0 for 0 */
 unsigned second_inverse(unsigned degree, unsigned a);
+unsigned second_quotient(unsigned degree, unsigned a, unsigned b);
 
 /* The same parameters in the same order as the calls of grenhyrna.h, each answering the same number. Buffers are changed just as
  * 01 says. */
