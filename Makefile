@@ -17,8 +17,7 @@ test:
 	@tests/run
 
 run:
-	@rt check records >/dev/null || rt check records
-	@tests/program records <'$(INPUT)'
+	@tests/decode '$(INPUT)'
 
 lib:
 	@tests/example
