@@ -1,4 +1,4 @@
--- The marked examples hold: antt computes the products, the encoding, the checks, the decoder's model, and the ring's points and word.
+-- The marked examples hold: antt computes products, encodings, checks, the decoder's model, and the ring's points and word.
 --
 --   Computes x    what antt computes of an example; holds, that it is enough
 --   all-hold      the claim

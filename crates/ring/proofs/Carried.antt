@@ -5,7 +5,7 @@
 --   all-y, sector-cut       there are q³ y, and those of sector x are the sector's
 --   points-cut, symbols-cut what holds of them, and of the symbols of a ring there
 --   sides                   what turning an array asks of the counts
---   laid-none, laid-step, laid-whole    no part laid; one part laid behind the others; all of them laid over a list that is as long
+--   laid-none, laid-step, laid-whole    no part laid; one part behind the others; all of them laid over a list that is as long
 --   values-turn, columns-turn    a turn of each loop
 --   ring-made, array-made   what the calls make of the parts
 -- Assumes nothing.

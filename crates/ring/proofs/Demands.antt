@@ -9,14 +9,14 @@
 --
 -- 'Nothing by halves', of decoding: g is what a decoding is given, and l what it leaves.
 --   refused-exactly     it is refused exactly when a check applies
---   refused-leaves      then its number is that of the first that does, of 10, 11, 5, 7 and 8, and word, flags and working space are
---                       as lent
+--   refused-leaves      then its number is that of the first that does, of 10, 11, 5, 7 and 8, and word, flags and working
+--                       space are as lent
 --   as-lent             unless the ending is 'corrected', word and flags are as lent
---   space-cleared       unless it is refused, the first 49,152 bytes of the working space are zero, and those beyond are as lent
+--   space-cleared       unless it is refused, the first 49,152 bytes of the working space are zero, those beyond as lent
 --
 -- What the endings mean for words of H(m).
---   corrected-nearest   'corrected' leaves a word that differs from the received ring in exactly as many sectors as the detail says,
---                       at most τ, where every other word differs in more; the flags are those of its wrong sectors
+--   corrected-nearest   'corrected' leaves a word that differs from the received ring in exactly as many sectors as the detail
+--                       says, at most τ, where every other word differs in more; the flags are those of its wrong sectors
 --   none-far            'none': no word is within τ sectors
 --   safe-exactly        at the safe limit or below: 'corrected' exactly when some word is within τ sectors
 --   safe-otherwise      there any ending but 'corrected' and 'refused' means that no word is within τ sectors

@@ -2,7 +2,7 @@
 --
 --   Encodes q m f lent left    encoding f with the buffer lent leaves left
 --   Reads q m w lent left      reading w with the buffer lent leaves left
---   Given, given               what a decoding is given: q, m, the trial limit, the received ring, the buffers and the space lent
+--   Given, given               what a decoding is given: q, m, the trial limit, the received ring, the buffers and space lent
 --   carriedBack q e b          the answer of the array's decoding, carried back to the ring
 --   RingEnds q m τ y lent e left    the decoding of y, not refused, ends as e and turns the buffers lent into left
 --   Decodes g l                the decoding of g leaves l

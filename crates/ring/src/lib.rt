@@ -57,8 +57,8 @@ pub fn encode(q: u32, m: u32, message: &[u8], word: &mut [u8]) -> Outcome
     Outcome::Done
 }
 
-// Writes the message of a word of H(m); refusals 10, 11, 5 and 7, and 9 where the ring is no word. They leave the message's buffer
-// as lent.
+// Writes the message of a word of H(m); refusals 10, 11, 5 and 7, and 9 where the ring is no word. They leave the message's
+// buffer as lent.
 pub fn read(q: u32, m: u32, word: &[u8], message: &mut [u8]) -> Outcome
     ensures { λ r. ⌜ Reads q m (now (word .entry)) (now (message .entry)) (left r (now (message .exit))) ⌝ }
 {
@@ -121,8 +121,8 @@ fn decode_ring(
     ending
 }
 
-// Decodes a received ring: refusals 10, 11, 5, 7 and 8, which touch nothing; else the ending, on `corrected` with the word and the
-// flags of its wrong sectors written, and in every case with the first 49,152 bytes of the working space zero.
+// Decodes a received ring: refusals 10, 11, 5, 7 and 8, which touch nothing; else the ending, on `corrected` with the word and
+// the flags of its wrong sectors written, and in every case with the first 49,152 bytes of the working space zero.
 pub fn decode(
     q: u32,
     m: u32,

@@ -1,6 +1,6 @@
-// Runs the calls on rings on 01's examples, and once for each refusal. A line says what was tried, how it finished, and what the
-// result's buffers then hold; they were lent with sevens in them. Of the working space, lent with sevens too, it says how many
-// are left.
+// Runs the calls on rings on 01's examples, and once for each refusal. A line says what was tried, how it finished, and what
+// the result's buffers then hold; they were lent with sevens in them. Of the working space, lent with sevens too, it says how
+// many are left.
 ghost use mathlib.Core.Path.{_≡_};
 ghost use Prim.Native.Nat.{_≤_};
 ghost use lib.ListN.{length};
