@@ -1,0 +1,81 @@
+// Records: one parsed, decoded, and its line written, all on slices.
+mod parts;
+mod text;
+
+ghost use mathlib.Core.Path.{_≡_};
+ghost use mathlib.Core.List.{List};
+ghost use Prim.Native.Nat.{ℕ, _≤_};
+ghost use lib.ListN.{length};
+ghost use Rattle.io.specs.Counts.{Counts};
+ghost use Rattle.record.specs.Records.{stopOf, wanted};
+ghost use Rattle.record.specs.Promises.{Answers, LineOf, recordIn};
+ghost use Rattle.record.specs.Working.{Puts, roomOf};
+use ending::Ending;
+
+// The answer to what is left of the input: nothing is left; a line, after which reading stops; a line, after which it goes on.
+// The number is the line's length.
+pub enum Reply {
+    End,
+    Last(usize),
+    Next(usize),
+}
+
+// How many bytes decide the answer, as far as the bytes so far show: two, five, or those of the whole record.
+pub fn wanted(bytes: &[u8]) -> usize
+    ensures { λ r. ⌜ (r ≡ wanted (now (bytes .entry))) × (r ≤ 490) ⌝ }
+{
+    if bytes.len() < 2 {
+        return 2;
+    }
+    if parts::no_mark(bytes) {
+        return 2;
+    }
+    if bytes.len() < 5 {
+        return 5;
+    }
+    if parts::out_of_range(bytes) {
+        return 5;
+    }
+    parts::size(bytes)
+}
+
+// Decodes a whole record in the working space lent, and writes its line.
+fn decode(number: u64, bytes: &[u8], out: &mut [u8], space: &mut [u8]) -> usize
+    requires { ⌜ (stopOf (now bytes) ≡ 0) × (323 ≤ length (now out)) ⌝ }
+    ensures { λ r. ⌜ ((line : List ℕ) × LineOf number (recordIn (now (space .entry)) (now (bytes .entry))) line × Puts (now (out .entry)) 0 line (now (out .exit)) r × (r ≤ 323)) ⌝ }
+{
+    let r = parts::wide(bytes[3]);
+    let n = parts::wide(bytes[4]);
+    let points = 6 + r;
+    let symbols = points + n;
+    let mut array = [0u8; 384];
+    let mut flags = [0u8; 96];
+    let ending = joint::decode(
+        bytes[2] as u32,
+        &bytes[5..5 + r],
+        &bytes[points..symbols],
+        bytes[5 + r] as u32,
+        &bytes[symbols..symbols + r * n],
+        &mut array[..r * n],
+        &mut flags[..n],
+        space,
+    );
+    text::put_line(out, number, ending, &flags[..n])
+}
+
+// Answers what is left of the input, or as much of it as is wanted: the record at its front is decoded, and the line with that
+// number laid in the buffer.
+pub fn answer(number: u64, bytes: &[u8], out: &mut [u8; 323]) -> Reply
+    ensures { λ r. ⌜ Answers number (now (bytes .entry)) (now (out .entry)) r (now (out .exit)) ⌝ }
+    ensures { λ r. ⌜ Counts (roomOf r) (now (out .exit)) ⌝ }
+{
+    if bytes.len() == 0 {
+        return Reply::End;
+    }
+    let k = parts::stop(bytes);
+    if k != 0 {
+        return Reply::Last(text::put_line(out, number, Ending::Refused(k), &bytes[..0]));
+    }
+    let mut space = [0u8; 49152];
+    Reply::Next(decode(number, bytes, out, &mut space))
+}
