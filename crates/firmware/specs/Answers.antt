@@ -1,4 +1,4 @@
--- What a C function answers: 'for the C caller packed as 256 times code plus detail', 'for the C caller these are that number
+-- What a C function answers: 'For the C caller the answer is one number, 256·code + detail'; 'for the C caller these are that number
 -- and 256'.
 use mathlib.Core.Path.{_≡_}
 use Prim.Native.Nat.{ℕ}

@@ -1,16 +1,21 @@
--- The wrong decoders that 01 shuts out by name: none of them keeps the promise on the first of the three records, P4.
+-- The wrong decoders that 01 shuts out by name: none of them keeps the promise on the first of the three records, P4. And the wrong
+-- guarantee, which P8 refutes.
 --
 --   p4, p4-left         what the decoding of P4 is given, and what it leaves; p4-decodes, by the proved list
 --   none-to-everything, hollow-to-everything    'a decoder that says "none" or "hollow" to everything'
 --   zeros-as-corrected  'one that returns zeros as corrected'
 --   row-0-alone         'a decoder that repairs row 0 and copies the rest'
 --   invented-detail     'an invented detail'
+--   p8-nearest, p8-another    two code arrays within two columns of P8's array: the guarantee is not that of the smallest k
 -- Assumes nothing.
 use mathlib.Core.Path.{_≡_, refl, ap}
 use mathlib.Core.List.{List, [], _∷_}
 use Prim.Native.Nat.{ℕ}
 use native.Mathlib.Omega.{arith}
 use lib.ListN.{getD}
+use Rattle.field.specs.Symbols.{plus, modulus, timesX, timesLow, times}
+use Rattle.poly.specs.Poly.{value, valuesAt}
+use Rattle.mark.specs.Code.{Code, total, encodedRows, encoded, differs, flagsFrom, wrongCount}
 use Rattle.ending.specs.Endings.{Buffers, codeOf, detailOf}
 use Rattle.ending.specs.declared.Ending.{Ending}
 use Rattle.ending.specs.declared.Ending.the-variants.{Corrected, Nothing, Hollow}
@@ -57,3 +62,21 @@ module _ (lent : Buffers) (space : List ℕ) (h : Lent (gf16 (1 ∷ 2 ∷ 4 ∷ 
 
   pub invented-detail : (k : ℕ) (b : Buffers) (w : List ℕ) → Decodes p4 (left (Corrected k) b w) → k ≡ 2
   invented-detail k b w d = ap detailOf (ends-as (Corrected k) b w d)
+
+-- 'The guarantee is read off the smallest k … P8 refutes it: its array also lies two columns from the code array 6 6 6 6 6 and
+-- 0 0 0 0 0': P8 has two code arrays within two columns, which is (n − k)/2 for its smallest k
+abbrev p8-code : Code
+p8-code = gf16 (1 ∷ 2 ∷ 4 ∷ 8 ∷ 3 ∷ []) (1 ∷ 3 ∷ [])
+
+abbrev p8-received : List ℕ
+p8-received = 6 ∷ 6 ∷ 6 ∷ 6 ∷ 6 ∷ 0 ∷ 0 ∷ 13 ∷ 5 ∷ 0 ∷ []
+
+pub p8-nearest : (encoded p8-code (6 ∷ 2 ∷ 3 ∷ 1 ∷ []) ≡ 6 ∷ 6 ∷ 6 ∷ 6 ∷ 6 ∷ 0 ∷ 0 ∷ 13 ∷ 5 ∷ 2 ∷ [])
+    × (wrongCount p8-code p8-received (6 ∷ 6 ∷ 6 ∷ 6 ∷ 6 ∷ 0 ∷ 0 ∷ 13 ∷ 5 ∷ 2 ∷ []) ≡ 1)
+unfolding total plus modulus timesX timesLow times value valuesAt encodedRows differs flagsFrom
+p8-nearest = (refl, refl)
+
+pub p8-another : (encoded p8-code (6 ∷ 0 ∷ 0 ∷ 0 ∷ []) ≡ 6 ∷ 6 ∷ 6 ∷ 6 ∷ 6 ∷ 0 ∷ 0 ∷ 0 ∷ 0 ∷ 0 ∷ [])
+    × (wrongCount p8-code p8-received (6 ∷ 6 ∷ 6 ∷ 6 ∷ 6 ∷ 0 ∷ 0 ∷ 0 ∷ 0 ∷ 0 ∷ []) ≡ 2)
+unfolding total plus modulus timesX timesLow times value valuesAt encodedRows differs flagsFrom
+p8-another = (refl, refl)
