@@ -1,15 +1,16 @@
 -- The first coefficients of a polynomial whose others are zero: they have its places and its values.
 --
+--   cut-length, cut-at    there are n of them, and what they are
 --   cut-poly       n coefficients, all of them symbols
 --   at-cut, value-cut   the same places, the same values
 --   multiple-cut   a polynomial of n coefficients that is a multiple of q up to trailing zeros is a multiple of q's first n
 --   zero-of-cut    and back
 use mathlib.Core.Path.{_≡_, refl, sym, _∙_, ap, ap₂}
 use mathlib.Core.List.{List, [], _∷_}
-use Prim.Native.Nat.{ℕ, zero, suc}
+use Prim.Native.Nat.{ℕ, zero, suc, _<_}
 use native.Mathlib.Nat.{suc-inj}
 use native.Mathlib.Omega.{arith}
-use lib.ListN.{length}
+use lib.ListN.{length, getD}
 use Rattle.field.specs.Arithmetic.{Arithmetic}
 use Rattle.field.proofs.Laws.{Field}
 use Rattle.poly.specs.Poly.{All, Zero, Poly, value, add, scale}
@@ -19,13 +20,22 @@ use Rattle.poly.proofs.Ring.{ring, plus-self, times-zero, plus-cancel}
 use Rattle.poly.proofs.Sums.{add-nil}
 use Rattle.basis.proofs.Vector.{at, Below, at-mix, at-scale, zero-at}
 
-module _ {K : Type 0} (A : Arithmetic K) (𝓕 : Field A) where
-  cut-length : (n : ℕ) (p : List K) → length (cut A n p) ≡ n
+module _ {K : Type 0} (A : Arithmetic K) where
+  pub cut-length : (n : ℕ) (p : List K) → length (cut A n p) ≡ n
   unfolding cut
   cut-length zero p = refl
   cut-length (suc n) [] = ap suc (cut-length n [])
   cut-length (suc n) (a ∷ p) = ap suc (cut-length n p)
 
+  pub cut-at : (n : ℕ) (p : List K) (k : ℕ) → k < n → getD (cut A n p) k (A .zero) ≡ getD p k (A .zero)
+  unfolding cut
+  cut-at zero p k lt = absurd (omega arith)
+  cut-at (suc n) [] zero lt = refl
+  cut-at (suc n) [] (suc k) lt = cut-at n [] k (omega arith)
+  cut-at (suc n) (a ∷ p) zero lt = refl
+  cut-at (suc n) (a ∷ p) (suc k) lt = cut-at n p k (omega arith)
+
+module _ {K : Type 0} (A : Arithmetic K) (𝓕 : Field A) where
   cut-in : (n : ℕ) (p : List K) → All (A .In) p → All (A .In) (cut A n p)
   unfolding cut
   cut-in zero p h = tt
@@ -33,7 +43,7 @@ module _ {K : Type 0} (A : Arithmetic K) (𝓕 : Field A) where
   cut-in (suc n) (a ∷ p) h = (h .0, cut-in n p (h .1))
 
   pub cut-poly : (n : ℕ) (p : List K) → All (A .In) p → Poly A n (cut A n p)
-  cut-poly n p h = record { count = cut-length n p; symbols = cut-in n p h }
+  cut-poly n p h = record { count = cut-length A n p; symbols = cut-in n p h }
 
   below-tail : (a : K) (p : List K) (n : ℕ) → Below A (a ∷ p) (suc n) → Below A p n
   below-tail a p n h i le = h (suc i) (omega arith)

@@ -8,7 +8,6 @@ pub mod Demands
 pub mod Unique
 pub mod Model
 pub mod ModelRows
-pub mod ModelFlags
 pub mod ModelFilled
 pub mod ModelEnds
 pub mod ModelExactly

@@ -16,6 +16,7 @@ use Rattle.field.specs.Arithmetic.{Arithmetic, gf}
 use Rattle.mark.specs.Code.{Code, rows, columns, IsMessage, IsArray, encoded, flagsOf, wrongCount, jointLimit}
 use Rattle.mark.proofs.Proper.{Proper}
 use Rattle.mark.proofs.Limits.{Room, joint-room}
+use Rattle.mark.proofs.Flags.{flags-length, flag-right}
 use Rattle.basis.proofs.Lines.{Line, least, another, size, locatorOf}
 use Rattle.basis.proofs.Locates.{Plain}
 use Rattle.basis.proofs.LeastSize.{LeastLocator, least-found, least-size, one-locator, two-locators}
@@ -24,7 +25,6 @@ use Rattle.ending.specs.Endings.{Buffers, Corrects, TwoApart, Ends}
 use Rattle.ending.proofs.WrongColumns.{rootAt, rootFlags, rootCount, wrong-number, wrong-columns, right-columns, divides-roots}
 use Rattle.ending.proofs.Model.{rowsOf, linesOf, filled, Outcome, Beyond, beyond, divided, alone, within, lowest, decided}
 use Rattle.ending.proofs.ModelRows.{rows-count, rows-symbols, rows-plain, locator-exactly}
-use Rattle.ending.proofs.ModelFlags.{flags-length, flag-right}
 use Rattle.ending.proofs.ModelFilled.{filled-code}
 
 module _ {c : Code} (p : Proper c) {y : List ℕ} (received : IsArray c y) (τ : ℕ) (limit : τ ≤ jointLimit c) (lent : Buffers) where

@@ -17,7 +17,7 @@ use Rattle.field.proofs.Laws.{Field}
 use Rattle.poly.specs.Poly.{All, Poly, value, valuesAt}
 use Rattle.poly.proofs.Forms.{reduce, fromNewton, newtonValue}
 use Rattle.poly.proofs.Newton.{newton-value, newton-unique}
-use Rattle.poly.proofs.Roots.{Mem, Distinct}
+use Rattle.poly.proofs.Roots.{Mem, Distinct, distinct-take}
 use Rattle.mark.specs.Code.{Code, rows, columns, total, IsMessage, IsArray, encodedRows, encoded}
 use Rattle.mark.proofs.Parts.{all-take, all-drop, poly-take, row-length, rest-length}
 use Rattle.mark.proofs.Proper.{Proper}
@@ -26,17 +26,6 @@ use Rattle.mark.proofs.Messages.{first-row, other-rows}
 use Rattle.mark.proofs.Flags.{pointsWhere, all-where, distinct-where}
 use Rattle.mark.proofs.Columns.{Agree}
 use Rattle.ending.proofs.Model.{right, filledRow, filledIn, filledRows, filled}
-
--- parts of distinct points
-
-mem-take : {K : Type 0} (n : ℕ) (xs : List K) (x : K) → Mem x (take n xs) → Mem x xs
-mem-take (suc n) (a ∷ xs) x (inl e) = inl e
-mem-take (suc n) (a ∷ xs) x (inr m) = inr (mem-take n xs x m)
-
-distinct-take : {K : Type 0} (n : ℕ) (xs : List K) → Distinct xs → Distinct (take n xs)
-distinct-take zero xs d = tt
-distinct-take (suc n) [] d = tt
-distinct-take (suc n) (x ∷ xs) d = (λ m. d .0 (mem-take n xs x m), distinct-take n xs (d .1))
 
 -- the flag of a column is 0
 unflagged : List ℕ → ℕ → Bool

@@ -17,7 +17,7 @@ use Rattle.poly.specs.Poly.{All, Zero, Poly, value, Fits}
 use Rattle.poly.proofs.Forms.{reduce}
 use Rattle.poly.proofs.Differences.{length-left, symbols-left}
 use Rattle.poly.proofs.OneOff.{Fitting, rounds-off}
-use Rattle.poly.proofs.Roots.{Distinct, roots}
+use Rattle.poly.proofs.Roots.{Distinct, distinct-drop, roots}
 use Rattle.mark.specs.Code.{Code, rows, columns, IsArray}
 use Rattle.mark.proofs.Parts.{all-take, all-drop, row-length, rest-length}
 use Rattle.mark.proofs.Proper.{Within, Proper}
@@ -26,11 +26,6 @@ use Rattle.basis.proofs.Lines.{Row}
 use Rattle.basis.proofs.Locates.{RowMet, Locates, Plain}
 use Rattle.ending.specs.Locators.{RowsFit, Locator}
 use Rattle.ending.proofs.Model.{reducedRows, rowsOf}
-
-distinct-drop : {K : Type 0} (n : ℕ) (xs : List K) → Distinct xs → Distinct (drop n xs)
-distinct-drop zero xs d = d
-distinct-drop (suc n) [] d = d
-distinct-drop (suc n) (x ∷ xs) d = distinct-drop n xs (d .1)
 
 module _ {K : Type 0} where
   zip-first : (P : K → Type 0) (xs ys : List K) → length ys ≡ length xs → All (λ (c : K × K). P (c .0)) (zip xs ys) → All P xs

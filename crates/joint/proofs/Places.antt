@@ -1,6 +1,5 @@
 -- Rows laid into longer lists, and read back.
 --
---   lay-append, behind   two rows laid one behind the other
 --   front, tail          the front of what a row was laid over; the row from entry k on
 --   copied, copied-front a list copied over one of its length; over the front of a longer one
 --   RowAt n ks l from    row l, of rows with the lengths ks and n symbols each, begins at symbol from of the array
@@ -18,34 +17,6 @@ use lib.ListN.{length, getD, take, drop, length-append, length-drop, drop-of-len
 use lib.Seq.{drop-cons, getD-append-add, length-take-le, take-add, take-append-seam, take-length, drop-at}
 use Rattle.patch.specs.Parts.{part, lay}
 use Rattle.patch.proofs.Parts.{length-lay, lay-inside, lay-below, lay-above, is-lay, part-lay}
-
-pub lay-append : (at : ℕ) (v w l : List ℕ) → at + length (v ++ w) ≤ length l
-    → lay (at + length v) w (lay at v l) ≡ lay at (v ++ w) l
-lay-append at v w l fits =
-    let size : length (v ++ w) ≡ length v + length w = length-append v w in
-    let long : length (lay at v l) ≡ length l = length-lay at v l in
-    is-lay at (v ++ w) l (lay (at + length v) w (lay at v l)) fits (length-lay (at + length v) w (lay at v l) ∙ long)
-    (λ i h. lay-below (at + length v) w (lay at v l) i (omega arith) ∙ lay-below at v l i h)
-    (λ k h. inside k (omega arith) (omega arith) (decLt k (length v)))
-    (λ i h. lay-above (at + length v) w (lay at v l) i (omega arith) ∙ lay-above at v l i (omega arith))
-  where
-    inside : (k : ℕ) → k < length v + length w → at + (length v + length w) ≤ length l → Dec (k < length v)
-        → getD (lay (at + length v) w (lay at v l)) (at + k) 0 ≡ getD (v ++ w) k 0
-    inside k h f (yes g) =
-        lay-below (at + length v) w (lay at v l) (at + k) (omega arith)
-        ∙ lay-inside at v l k g (omega arith) ∙ sym (List·getD-append v w 0 k g)
-    inside k h f (no g) =
-        let long : length (lay at v l) ≡ length l = length-lay at v l in
-        let e : at + k ≡ at + length v + (k - length v) = omega arith in
-        let e′ : length v + (k - length v) ≡ k = omega arith in
-        ap (λ (i : ℕ). getD (lay (at + length v) w (lay at v l)) i 0) e
-        ∙ lay-inside (at + length v) w (lay at v l) (k - length v) (omega arith) (omega arith)
-        ∙ sym (getD-append-add v w (k - length v) 0)
-        ∙ ap (λ (i : ℕ). getD (v ++ w) i 0) e′
-
-pub behind : (at : ℕ) (v w l : List ℕ) {n : ℕ} {s : List ℕ} → length v ≡ n → s ≡ lay at v l → at + length (v ++ w) ≤ length l
-    → lay (at + n) w s ≡ lay at (v ++ w) l
-behind at v w l e is fits = rw (← e, is) (lay-append at v w l fits)
 
 module _ (v l : List ℕ) {n : ℕ} {s : List ℕ} (is : s ≡ lay 0 v l) (size : length v ≡ n) (fits : n ≤ length l) where
   pub front : take n s ≡ v

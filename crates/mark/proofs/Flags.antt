@@ -1,5 +1,7 @@
 -- Tests of columns: their flags, and the points at whose columns they hold.
 --
+--   flags-length       there is one for each column
+--   flag-right         where a flag is 0 the test fails
 --   flags-same         tests that agree at each column have the same flags
 --   pointsWhere f xs   the points of xs at whose column f holds
 --   count-where        they are as many as the flags add up to
@@ -12,12 +14,31 @@ use mathlib.Core.Logic.{_↔_, _⊎_, inl, inr, ⊎-elim, Iff·trans, Iff·and}
 use mathlib.Core.Bool.{Bool, true, false, true≢false}
 use mathlib.Core.List.{List, [], _∷_}
 use Prim.Native.Nat.{ℕ, zero, suc, _+_, _<_}
+use native.Mathlib.Nat.{add-zero, add-suc, suc-add, zero-add}
 use native.Mathlib.Omega.{arith}
 use lib.ListN.{length, getD}
 use Rattle.poly.specs.Poly.{All}
 use Rattle.poly.proofs.Roots.{Mem, Distinct}
 use Rattle.mark.specs.Code.{total, flag, flagsFrom}
 use Rattle.mark.proofs.Parts.{index-cons, all-map}
+
+pub flags-length : (f : ℕ → Bool) (i n : ℕ) → length (flagsFrom f i n) ≡ n
+unfolding flagsFrom
+flags-length f i zero = refl
+flags-length f i (suc n) = ap suc (flags-length f (suc i) n)
+
+flag-at : (f : ℕ → Bool) (a n i : ℕ) → i < n → getD (flagsFrom f a n) i 0 ≡ flag (f (a + i))
+unfolding flagsFrom
+flag-at f a zero i q = absurd (omega arith)
+flag-at f a (suc n) zero q = rw add-zero
+flag-at f a (suc n) (suc i) q = flag-at f (suc a) n i (omega arith) ∙ rw (suc-add, ← add-suc)
+
+not-flagged : (b : Bool) → flag b ≡ 0 → b ≡ false
+not-flagged true e = absurd (omega arith)
+not-flagged false e = refl
+
+pub flag-right : (f : ℕ → Bool) (n i : ℕ) → i < n → getD (flagsFrom f 0 n) i 0 ≡ 0 → f i ≡ false
+flag-right f n i q e = not-flagged (f i) (sym (flag-at f 0 n i q ∙ ap (λ (j : ℕ). flag (f j)) (zero-add i)) ∙ e)
 
 -- flags from column i + 1 on, counted from i on
 shift : (f : ℕ → Bool) (i n : ℕ) → flagsFrom f (suc i) n ≡ flagsFrom (λ j. f (suc j)) i n

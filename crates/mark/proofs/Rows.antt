@@ -4,7 +4,6 @@
 --   Place c l p q k     row l is at these places, and has k coefficients
 --   first-place, next-place    of the first row; of the next
 --   bounds              a row lies within the message and the array
---   lay-append          two lists laid one behind the other
 --   lay-front, copied   what was laid, or copied, at the front is there
 --   released            what was laid at the front, copied over a whole list
 --   encoded-more        a row's values, laid before the rows that are left
@@ -95,30 +94,6 @@ module _ {c : Code} {l p q k : ℕ} (h : Place c l p q k) where
         symbols = h .counts .cells;
       }
 
-pub lay-append : (at : ℕ) (v w l : List ℕ) → at + length (v ++ w) ≤ length l
-    → lay (at + length v) w (lay at v l) ≡ lay at (v ++ w) l
-lay-append at v w l fits =
-    let size : length (v ++ w) ≡ length v + length w = length-append v w in
-    let long : length (lay at v l) ≡ length l = length-lay at v l in
-    is-lay at (v ++ w) l (lay (at + length v) w (lay at v l)) fits (length-lay (at + length v) w (lay at v l) ∙ long)
-    (λ i h. lay-below (at + length v) w (lay at v l) i (omega arith) ∙ lay-below at v l i h)
-    (λ k h. inside k (omega arith) (omega arith) (decLt k (length v)))
-    (λ i h. lay-above (at + length v) w (lay at v l) i (omega arith) ∙ lay-above at v l i (omega arith))
-  where
-    inside : (k : ℕ) → k < length v + length w → at + (length v + length w) ≤ length l → Dec (k < length v)
-        → getD (lay (at + length v) w (lay at v l)) (at + k) 0 ≡ getD (v ++ w) k 0
-    inside k h f (yes g) =
-        lay-below (at + length v) w (lay at v l) (at + k) (omega arith)
-        ∙ lay-inside at v l k g (omega arith) ∙ sym (List·getD-append v w 0 k g)
-    inside k h f (no g) =
-        let long : length (lay at v l) ≡ length l = length-lay at v l in
-        let e : at + k ≡ at + length v + (k - length v) = omega arith in
-        let e′ : length v + (k - length v) ≡ k = omega arith in
-        ap (λ (i : ℕ). getD (lay (at + length v) w (lay at v l)) i 0) e
-        ∙ lay-inside (at + length v) w (lay at v l) (k - length v) (omega arith) (omega arith)
-        ∙ sym (getD-append-add v w (k - length v) 0)
-        ∙ ap (λ (i : ℕ). getD (v ++ w) i 0) e′
-
 pub lay-front : (v l : List ℕ) → length v ≤ length l → take (length v) (lay 0 v l) ≡ v
 unfolding part
 lay-front v l h = part-lay 0 v l (omega arith)
@@ -132,11 +107,6 @@ pub released : (v l old : List ℕ) {s out : List ℕ} → s ≡ lay 0 v l → l
 released v l old {s} {out} is e fits out-is =
     let front : take (length old) s ≡ v = rw (← e, is) (lay-front v l fits) in
     (rw front at out-is) ∙ rw (take-length, e, drop-length old) (append-nil v)
-
--- what is laid at a place, and then the rest behind it
-behind : (at : ℕ) (v w l : List ℕ) {n : ℕ} {s : List ℕ} → length v ≡ n → s ≡ lay at v l → at + length (v ++ w) ≤ length l
-    → lay (at + n) w s ≡ lay at (v ++ w) l
-behind at v w l e is fits = rw (← e, is) (lay-append at v w l fits)
 
 module _ {c : Code} {l p q k : ℕ} (h : Place c l p q k) where
   open Code c using (degree, points, lengths)

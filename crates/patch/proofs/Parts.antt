@@ -10,6 +10,7 @@
 --   lay-again                 a row over a row that is not longer
 --   patch-is-lay              a patch is the row of the values written
 --   patch-lay                 a patch inside a row is a patch of the row
+--   lay-append, behind        two rows laid one behind the other are the two in one
 -- Assumes nothing.
 use mathlib.Core.Path.{_≡_, refl, sym, ap, _∙_}
 use mathlib.Core.List.{List, [], _∷_, _++_}
@@ -147,3 +148,29 @@ patch-lay at j (suc m) f v l h fits =
     let size : length (patch j m f v) ≡ length v = length-patch j f v m in
     ap (λ (t : List ℕ). set t (at + j + m) (f m)) (patch-lay at j m f v l (omega arith) fits)
     ∙ rw add-assoc (set-lay at (patch j m f v) l (omega arith) (j + m) (f m) (omega arith))
+
+pub lay-append : (at : ℕ) (v w l : List ℕ) → at + length (v ++ w) ≤ length l
+    → lay (at + length v) w (lay at v l) ≡ lay at (v ++ w) l
+lay-append at v w l fits =
+    let size : length (v ++ w) ≡ length v + length w = length-append v w in
+    let long : length (lay at v l) ≡ length l = length-lay at v l in
+    is-lay at (v ++ w) l (lay (at + length v) w (lay at v l)) fits (length-lay (at + length v) w (lay at v l) ∙ long)
+    (λ i h. lay-below (at + length v) w (lay at v l) i (omega arith) ∙ lay-below at v l i h)
+    (λ k h. inside k (omega arith) (omega arith) (decLt k (length v)))
+    (λ i h. lay-above (at + length v) w (lay at v l) i (omega arith) ∙ lay-above at v l i (omega arith))
+  where
+    inside : (k : ℕ) → k < length v + length w → at + (length v + length w) ≤ length l → Dec (k < length v)
+        → getD (lay (at + length v) w (lay at v l)) (at + k) 0 ≡ getD (v ++ w) k 0
+    inside k h f (yes g) =
+        lay-below (at + length v) w (lay at v l) (at + k) (omega arith)
+        ∙ lay-inside at v l k g (omega arith) ∙ sym (List·getD-append v w 0 k g)
+    inside k h f (no g) =
+        let long : length (lay at v l) ≡ length l = length-lay at v l in
+        let e : at + k ≡ at + length v + (k - length v) = omega arith in
+        let e′ : length v + (k - length v) ≡ k = omega arith in
+        ap (λ (i : ℕ). getD (lay (at + length v) w (lay at v l)) i 0) e
+        ∙ lay-inside (at + length v) w (lay at v l) (k - length v) (omega arith) (omega arith)
+        ∙ sym (getD-append-add v w (k - length v) 0)
+        ∙ ap (λ (i : ℕ). getD (v ++ w) i 0) e′
+
+

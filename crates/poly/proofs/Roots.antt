@@ -1,6 +1,7 @@
 -- A polynomial has no more roots than its degree, and what follows.
 --
 --   Mem x xs, Distinct xs    x is one of xs; no two of xs are equal
+--   distinct-take, distinct-drop    parts of distinct points are distinct
 --   Vanishes p xs   p is zero at every point of xs
 --   roots           p with at most n coefficients that vanishes at n distinct points is zero
 --   few-roots       p other than zero with at most t + 1 coefficients vanishes at t distinct points at most
@@ -14,7 +15,7 @@ use mathlib.Core.List.{List, [], _∷_}
 use Prim.Native.Nat.{ℕ, zero, suc, _≤_}
 use native.Mathlib.Omega.{arith}
 use native.Mathlib.Decide.{decLe}
-use lib.ListN.{length}
+use lib.ListN.{length, take, drop}
 use Rattle.field.specs.Arithmetic.{Arithmetic}
 use Rattle.field.proofs.Laws.{Field}
 use Rattle.poly.specs.Poly.{All, Zero, Poly, value, valuesAt, add, scale, mul}
@@ -32,6 +33,20 @@ Mem x (y ∷ xs) = (x ≡ y) ⊎ Mem x xs
 abbrev pub Distinct : {K : Type 0} → List K → Type 0
 Distinct [] = Unit {0}
 Distinct (x ∷ xs) = ¬ Mem x xs × Distinct xs
+
+mem-take : {K : Type 0} (n : ℕ) (xs : List K) (x : K) → Mem x (take n xs) → Mem x xs
+mem-take (suc n) (a ∷ xs) x (inl e) = inl e
+mem-take (suc n) (a ∷ xs) x (inr m) = inr (mem-take n xs x m)
+
+pub distinct-take : {K : Type 0} (n : ℕ) (xs : List K) → Distinct xs → Distinct (take n xs)
+distinct-take zero xs d = tt
+distinct-take (suc n) [] d = tt
+distinct-take (suc n) (x ∷ xs) d = (λ m. d .0 (mem-take n xs x m), distinct-take n xs (d .1))
+
+pub distinct-drop : {K : Type 0} (n : ℕ) (xs : List K) → Distinct xs → Distinct (drop n xs)
+distinct-drop zero xs d = d
+distinct-drop (suc n) [] d = d
+distinct-drop (suc n) (x ∷ xs) d = distinct-drop n xs (d .1)
 
 module _ {K : Type 0} (A : Arithmetic K) where
   abbrev pub Vanishes : List K → List K → Type 0

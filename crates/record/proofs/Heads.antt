@@ -16,7 +16,7 @@ use lib.Dec.{eqb}
 use lib.ListN.{length, getD}
 use borrow.Author.Tests.{lt-ltb, le-ltb, le-leb, lt-leb, eq-eqb, ne-eqb}
 use Rattle.refusal.specs.Refusal.{outside}
-use Rattle.refusal.proofs.Laws.{within}
+use Rattle.refusal.proofs.Laws.{neither, within}
 use Rattle.record.specs.Records.{mark, begins, noMark, outOfRange, rowsIn, columnsIn, sizeIn, wanted}
 
 pub few-bytes : (b : List ℕ) → length b < 2 → noMark b ≡ false
@@ -42,10 +42,6 @@ rows-out b h = rw h
 pub rows-in : (b : List ℕ) → outside 1 4 (rowsIn b) ≡ false → outOfRange b ≡ outside 1 96 (columnsIn b)
 unfolding outOfRange
 rows-in b h = rw h
-
-neither : (a b : Bool) → a || b ≡ false → (a ≡ false) × (b ≡ false)
-neither true b h = let z : _≡_ {A = ℕ} 0 1 = cc in absurd (omega arith)
-neither false b h = (refl, h)
 
 module _ (b : List ℕ) (h : outOfRange b ≡ false) where
   pub in-range : (outside 1 4 (rowsIn b) ≡ false) × (outside 1 96 (columnsIn b) ≡ false)

@@ -55,7 +55,7 @@ positive d h = go (degrees d h)
 pub field-size : (d : ℕ) → badDegree d ≡ false → 2 ^ d ≤ 256
 field-size d h = pow-mono (up-to-eight d h)
 
-neither : (a b : Bool) → a || b ≡ false → (a ≡ false) × (b ≡ false)
+pub neither : (a b : Bool) → a || b ≡ false → (a ≡ false) × (b ≡ false)
 neither true b h = let z : _≡_ {A = ℕ} 0 1 = cc in absurd (omega arith)
 neither false b h = (refl, h)
 

@@ -15,8 +15,9 @@ use lib.ListN.{length, getD, getElem?}
 use lib.Seq.{ext-getD}
 use Rattle.patch.specs.Parts.{part}
 use Rattle.patch.proofs.Parts.{length-part, part-at}
-use Rattle.field.specs.Arithmetic.{Arithmetic, gf}
-use Rattle.basis.proofs.Lines.{Line, cut, locatorOf}
+use Rattle.field.specs.Arithmetic.{gf}
+use Rattle.basis.proofs.Lines.{Line, locatorOf}
+use Rattle.basis.proofs.Cut.{cut-length, cut-at}
 use Rattle.solver.specs.Slots.{slots}
 use Rattle.solver.specs.Held.{blank, LeadsOf, Held, Holds}
 use Rattle.solver.proofs.Slots.{part-slots}
@@ -38,21 +39,6 @@ numbered es r g e = go (decLt r (length es))
         let missing = sym (line-none blank es r (omega arith)) ∙ e in
         let z : _≡_ {A = ℕ} 0 1 = cc in
         absurd (omega arith)
-
-module _ {K : Type 0} (A : Arithmetic K) where
-  cut-length : (n : ℕ) (p : List K) → length (cut A n p) ≡ n
-  unfolding cut
-  cut-length zero p = refl
-  cut-length (suc n) [] = ap suc (cut-length n [])
-  cut-length (suc n) (a ∷ p) = ap suc (cut-length n p)
-
-  cut-at : (n : ℕ) (p : List K) (k : ℕ) → k < n → getD (cut A n p) k (A .zero) ≡ getD p k (A .zero)
-  unfolding cut
-  cut-at zero p k lt = absurd (omega arith)
-  cut-at (suc n) [] zero lt = refl
-  cut-at (suc n) [] (suc k) lt = cut-at n [] k (omega arith)
-  cut-at (suc n) (a ∷ p) zero lt = refl
-  cut-at (suc n) (a ∷ p) (suc k) lt = cut-at n p k (omega arith)
 
 pub locator-held : (d C s : ℕ) {leads space : List ℕ} {es : List (Line ℕ)} → Holds d C s C leads space es → (j t : ℕ) → j < s → C + t < 768
     → 768 * j + 768 ≤ length space → part (768 * j + C) (t + 1) space ≡ locatorOf (gf d) t (getD es j blank)

@@ -11,17 +11,10 @@ use Rattle.patch.proofs.Laws.{patch-none, length-patch, patch-step, here}
 use Rattle.field.specs.Symbols.{plus, times}
 use Rattle.field.specs.Lists.{multiplied}
 use Rattle.field.proofs.Sums.{plus-below}
+use Rattle.field.proofs.ListProducts.{as-before, multiplied-is}
 use borrow.Author.Needs.{needs}
 use Rattle.field.proofs.lists.multiply_few.Statement.{statement}
 use Rattle.field.proofs.lists.multiply_few.Tie as tie
-
-as-before : {x y m : ℕ} → x ≡ y → y < m → x < m
-as-before e h = rw e h
-
-multiplied-is : (d : ℕ) (w : List ℕ) (a : ℕ) (l : List ℕ) (at b i : ℕ) {v x : ℕ}
-    → v ≡ times d (plus (getD w i 0) a) (plus x b) → x ≡ getD l (at + i) 0 → v ≡ multiplied d w a l at b i
-unfolding multiplied
-multiplied-is d w a l at b i e f = e ∙ ap (λ (y : ℕ). times d (plus (getD w i 0) a) (plus y b)) f
 
 abbrev Inv-loop : tie.InvT-loop
 Inv-loop table degree w a s₀ at b i₀ s i = (i ≤ length w) × (s ≡ patch at i (multiplied degree w a s₀ at b) s₀)

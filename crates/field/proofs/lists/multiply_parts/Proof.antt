@@ -5,7 +5,7 @@ use Prim.Native.Nat.{_*_, _/_}
 use native.Mathlib.Omega.{arith}
 use lib.ListN.{length}
 use lib.Seq.{length-take-le}
-use Rattle.field.proofs.Sixteens.{whole-sixteens, front-factors, front-symbols, rest-length, back-factors, back-symbols, both-parts}
+use Rattle.field.proofs.ListProducts.{whole-sixteens, front-factors, front-symbols, rest-length, back-factors, back-symbols, both-parts}
 use borrow.Author.Needs.{needs}
 use Rattle.field.proofs.lists.multiply_parts.Statement.{statement}
 use Rattle.field.proofs.lists.multiply_parts.Tie as tie

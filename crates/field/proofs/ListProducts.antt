@@ -1,5 +1,6 @@
--- A list of factors taken in two parts, the first of m.
+-- Products of two lists: one product, and a list of factors taken in two parts, the first of m.
 --
+--   as-before, multiplied-is    what a loop reads is a symbol, and what it writes is the product
 --   whole-sixteens    the sixteens of a number are within it
 --   Fronted           what multiplying by the first part leaves of l
 --   rest, rest-length    the second part, and its length
@@ -19,6 +20,14 @@ use Rattle.patch.proofs.Laws.{patch-above, patch-cong, patch-append}
 use Rattle.patch.proofs.Parts.{length-part, part-at}
 use Rattle.field.specs.Symbols.{plus, times}
 use Rattle.field.specs.Lists.{multiplied, SymbolsAt}
+
+pub as-before : {x y m : ℕ} → x ≡ y → y < m → x < m
+as-before e h = rw e h
+
+pub multiplied-is : (d : ℕ) (w : List ℕ) (a : ℕ) (l : List ℕ) (at b i : ℕ) {v x : ℕ}
+    → v ≡ times d (plus (getD w i 0) a) (plus x b) → x ≡ getD l (at + i) 0 → v ≡ multiplied d w a l at b i
+unfolding multiplied
+multiplied-is d w a l at b i e f = e ∙ ap (λ (y : ℕ). times d (plus (getD w i 0) a) (plus y b)) f
 
 pub whole-sixteens : (n : ℕ) → n / 16 * 16 ≤ n
 whole-sixteens n = omega arith
