@@ -151,10 +151,10 @@ module _ (xs ms fs : List ℕ) (is : fs ≡ zerosIn ms) (size : length ms ≡ le
       room-at (k ∷ ks) r zero h = r .0
       room-at (k ∷ ks) r (suc l) h = room-at ks (r .1) l (omega arith)
 
-  pub longest-right : (ks : List ℕ) → Room (length xs) (total fs) ks → largest ks ≤ length (right fs xs)
-  longest-right ks r =
+  pub longest-right : (ks : List ℕ) → Room (length xs) (total fs) ks → {gs : List ℕ} → gs ≡ right fs xs → largest ks ≤ length gs
+  longest-right ks r good =
       let others : length (right fs xs) + total fs ≡ length xs = rw is (right-others ms xs (sym size)) in
-      omega (arith, room-largest (length xs) (total fs) ks r)
+      rw good (omega (arith, room-largest (length xs) (total fs) ks r))
 
   pub right-points : {d : ℕ} → Points d xs → (k : ℕ) → Points d (take k (right fs xs))
   right-points {d} p k = record {

@@ -30,11 +30,6 @@ Inv-loop table degree lengths points good wrong flags marks ws received s₀ at�
 abbrev μ-loop : tie.MeasureT-loop
 μ-loop table degree lengths points good wrong flags marks ws received s₀ at₀ l₀ s at l = length lengths - l
 
-long : (c : tie.Start Inv-loop μ-loop) → largest (c .args .lengths .now) ≤ length (c .args .good .now)
-long c =
-    let p = c .pre .1 .1 in
-    omega (arith, ap length (p .1 .0), longest-right (c .args .points .now) (c .args .marks .now) (c .args .flags .now) (p .0 .0) (p .0 .1) (c .args .lengths .now) (p .0 .2))
-
 module _ (c : tie.In-loop Inv-loop μ-loop) where
   abbrev start : tie.Start Inv-loop μ-loop
   start = c .before .before .before .before .before .before .before .before .before .before .before
@@ -56,7 +51,9 @@ module _ (c : tie.In-loop Inv-loop μ-loop) where
       let xs = start .args .good .now in
       let most = largest (start .args .lengths .now) in
       let few : k ≤ most = up-to-largest (start .args .lengths .now) (c .before .loop .l) (c .loop-test .taken) in
-      let size : length (take most xs) ≡ most = length-take-le most xs (long start) in
+      let p = start .pre .1 .1 in
+      let long : most ≤ length xs = longest-right (start .args .points .now) (start .args .marks .now) (start .args .flags .now) (p .0 .0) (p .0 .1) (start .args .lengths .now) (p .0 .2) (p .1 .0) in
+      let size : length (take most xs) ≡ most = length-take-le most xs long in
       rw e (rw (take-take k most xs few) at (fewer-rounds _ _ (fewer-points _ _ (start .pre .1 .1 .1 .2) {m = k} (omega arith)) few))
 
 loop-holds : tie.Need-loop-holds Inv-loop μ-loop

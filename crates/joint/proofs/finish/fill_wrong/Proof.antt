@@ -1,6 +1,6 @@
 -- `finish::fill_wrong` takes the inverses of the longest row's rounds over the right columns, and lends them to all rows.
 -- Assumes nothing.
-use mathlib.Core.Path.{_≡_, sym, ap}
+use mathlib.Core.Path.{_≡_, sym}
 use mathlib.Core.List.{List}
 use Prim.Native.Nat.{ℕ, _≤_}
 use native.Mathlib.Omega.{arith}
@@ -16,7 +16,7 @@ use Rattle.joint.proofs.finish.fill_wrong.Tie as tie
 long : (c : tie.Start) → largest (c .args .lengths .now) ≤ length (c .args .good .now)
 long c =
     let p = c .pre .1 .1 in
-    omega (arith, ap length (p .1 .0), longest-right (c .args .points .now) (c .args .marks .now) (c .args .flags .now) (p .0 .0) (p .0 .1) (c .args .lengths .now) (p .0 .2))
+    longest-right (c .args .points .now) (c .args .marks .now) (c .args .flags .now) (p .0 .0) (p .0 .1) (c .args .lengths .now) (p .0 .2) (p .1 .0)
 
 largest-requires : tie.Need-largest-requires
 largest-requires c κs = search needs
