@@ -8,11 +8,12 @@ ghost use Rattle.refusal.specs.Refusal.{badDegree};
 ghost use Rattle.field.specs.Symbols.{IsSymbol};
 ghost use Rattle.field.specs.Tables.{IsTable};
 ghost use Rattle.poly.specs.Poly.{All};
-ghost use Rattle.rows.specs.Rows.{Points};
-ghost use Rattle.mark.specs.Code.{codeOf, IsArray};
+ghost use Rattle.rows.specs.Rows.{Points, Inverses};
+ghost use Rattle.mark.specs.Code.{codeOf, IsArray, largest};
 ghost use Rattle.mark.proofs.Proper.{Proper};
 ghost use Rattle.desk.specs.Verdict.{Misfits};
 use field::tables::LENT;
+use mark::checks;
 
 // A byte as a count.
 fn wide(x: u8) -> usize
@@ -22,19 +23,52 @@ fn wide(x: u8) -> usize
 }
 
 // 1 where the row is not values of a polynomial with at most k coefficients, 0 where it is: k rounds of divided differences
-// leave something, or nothing, but zeros.
-fn misfit(table: &[u8; LENT], degree: u32, points: &[u8], k: usize, row: &[u8]) -> usize
+// leave something, or nothing, but zeros; ws are the inverses of the rounds.
+fn misfit(table: &[u8; LENT], degree: u32, points: &[u8], k: usize, ws: &[u8], row: &[u8]) -> usize
     requires { ⌜ (badDegree degree ≡ false) × IsTable degree (now table) × Points degree (now points) ⌝ }
     requires { ⌜ (k ≤ length (now points)) × (length (now points) ≤ 16) × (length (now row) ≡ length (now points)) ⌝ }
-    requires { ⌜ All (IsSymbol degree) (now row) ⌝ }
+    requires { ⌜ All (IsSymbol degree) (now row) × Inverses degree (now points) k (now ws) ⌝ }
     ensures { λ r. ⌜ Misfits degree (now (points .entry)) (k ∷ []) (now (row .entry)) r ⌝ }
 {
     let n = points.len();
     let mut s = [0u8; 16];
     rows::store(row, &mut s, 0);
-    rows::reduce(table, degree, points, k, &mut s, 0);
+    rows::lent::reduce(table, degree, points, k, ws, &mut s, 0);
     let nonzero = refusal::some_outside(0, 0, &s[k..n]);
     if nonzero { 1 } else { 0 }
+}
+
+// The number of rows of the array that do not fit, ws being the inverses of the longest row's rounds.
+fn rows_misfits(
+    table: &[u8; LENT],
+    degree: u32,
+    points: &[u8],
+    lengths: &[u8],
+    ws: &[u8],
+    array: &[u8],
+) -> usize
+    requires { ⌜ (badDegree degree ≡ false) × IsTable degree (now table) ⌝ }
+    requires { ⌜ (length (now points) ≤ 16) × (length (now lengths) ≤ 4) ⌝ }
+    requires { ⌜ Proper (codeOf degree (now points) (now lengths)) × IsArray (codeOf degree (now points) (now lengths)) (now array) × Inverses degree (now points) (largest (now lengths)) (now ws) ⌝ }
+    ensures { λ r. ⌜ Misfits degree (now (points .entry)) (now (lengths .entry)) (now (array .entry)) r ⌝ }
+{
+    let n = points.len();
+    let mut count = 0;
+    let mut start = 0;
+    let mut l = 0;
+    while l < lengths.len() {
+        count += misfit(
+            table,
+            degree,
+            points,
+            wide(lengths[l]),
+            ws,
+            &array[start..start + n],
+        );
+        start += n;
+        l += 1;
+    }
+    count
 }
 
 // The number of rows of the array that do not fit.
@@ -50,20 +84,8 @@ pub fn misfits(
     requires { ⌜ Proper (codeOf degree (now points) (now lengths)) × IsArray (codeOf degree (now points) (now lengths)) (now array) ⌝ }
     ensures { λ r. ⌜ Misfits degree (now (points .entry)) (now (lengths .entry)) (now (array .entry)) r ⌝ }
 {
-    let n = points.len();
-    let mut count = 0;
-    let mut start = 0;
-    let mut l = 0;
-    while l < lengths.len() {
-        count += misfit(
-            table,
-            degree,
-            points,
-            wide(lengths[l]),
-            &array[start..start + n],
-        );
-        start += n;
-        l += 1;
-    }
-    count
+    let mut ws = [0u8; 1536];
+    let k = checks::largest(lengths);
+    rows::lent::all_inverses(table, degree, points, k, &mut ws);
+    rows_misfits(table, degree, points, lengths, &ws, array)
 }

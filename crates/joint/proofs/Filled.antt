@@ -3,7 +3,8 @@
 --   row-is          a row merged with the values at the points whose mark is zero is the model's row
 --   coefficients, newton, row-filled    what the code makes of a row: its Newton coefficients, and the row filled in
 --   rows-length     they are as long as the array
---   flags-count, wrong-count, enough-right, right-points    the flags, the wrong columns, and the right ones with their points
+--   flags-count, wrong-count, enough-right, longest-right, right-points    the flags, the wrong columns, and the right ones
+--                   with their points
 --   filled-more     a row filled in, laid before the rows that are left
 -- Assumes nothing.
 use mathlib.Core.Path.{_≡_, refl, sym, ap, _∙_}
@@ -20,10 +21,10 @@ use Rattle.field.specs.Arithmetic.{gf}
 use Rattle.field.proofs.Laws.{Field}
 use Rattle.poly.proofs.Forms.{reduce, newtonValue}
 use Rattle.poly.proofs.Differences.{length-reduce}
-use Rattle.mark.specs.Code.{total}
+use Rattle.mark.specs.Code.{largest, total}
 use Rattle.rows.specs.Rows.{Points}
 use Rattle.mark.proofs.Parts.{all-take, row-length, rest-length}
-use Rattle.mark.proofs.Limits.{Room}
+use Rattle.mark.proofs.Limits.{Room, room-largest}
 use Rattle.ending.proofs.Model.{right, filledRow, filledIn, filledRows}
 use Rattle.joint.specs.Working.{zerosIn, put, refilled}
 use Rattle.joint.proofs.Places.{RowAt, next, behind, front, row-left, row-size}
@@ -149,6 +150,11 @@ module _ (xs ms fs : List ℕ) (is : fs ≡ zerosIn ms) (size : length ms ≡ le
       room-at [] r l h = absurd (omega arith)
       room-at (k ∷ ks) r zero h = r .0
       room-at (k ∷ ks) r (suc l) h = room-at ks (r .1) l (omega arith)
+
+  pub longest-right : (ks : List ℕ) → Room (length xs) (total fs) ks → {gs : List ℕ} → gs ≡ right fs xs → largest ks ≤ length gs
+  longest-right ks r good =
+      let others : length (right fs xs) + total fs ≡ length xs = rw is (right-others ms xs (sym size)) in
+      rw good (omega (arith, room-largest (length xs) (total fs) ks r))
 
   pub right-points : {d : ℕ} → Points d xs → (k : ℕ) → Points d (take k (right fs xs))
   right-points {d} p k = record {

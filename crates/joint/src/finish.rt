@@ -3,14 +3,14 @@ ghost use mathlib.Core.Path.{_≡_};
 ghost use mathlib.Core.Bool.{false};
 ghost use Prim.Native.Nat.{ℕ, suc, _+_, _≤_, _<_};
 ghost use native.Mathlib.Decide.{ℕ-discrete};
-ghost use lib.ListN.{length};
+ghost use lib.ListN.{length, take};
 ghost use Rattle.patch.specs.Parts.{lay};
 ghost use Rattle.refusal.specs.Refusal.{badDegree};
 ghost use Rattle.field.specs.Symbols.{IsSymbol};
 ghost use Rattle.field.specs.Tables.{IsTable};
 ghost use Rattle.poly.specs.Poly.{All};
-ghost use Rattle.rows.specs.Rows.{Points};
-ghost use Rattle.mark.specs.Code.{IsArray, codeOf, jointLimit, rows, total};
+ghost use Rattle.rows.specs.Rows.{Points, Inverses};
+ghost use Rattle.mark.specs.Code.{IsArray, codeOf, jointLimit, largest, rows, total};
 ghost use Rattle.mark.proofs.Passed.{Counts};
 ghost use Rattle.mark.proofs.Proper.{Proper};
 ghost use Rattle.mark.proofs.Limits.{Room};
@@ -20,6 +20,7 @@ ghost use Rattle.ending.proofs.Model.{right, filled, divided};
 ghost use Rattle.joint.specs.Working.{flagOf, zerosIn, put, refilled, fronts, released};
 use ending::Ending;
 use field::tables::LENT;
+use mark::checks;
 
 // The flag of a value: 1 if it is zero.
 fn flag_of(value: u8) -> u8
@@ -87,7 +88,7 @@ fn merge(marks: &[u8], vs: &[u8], row: &[u8], s: &mut [u8], at: usize)
 }
 
 // A row with its wrong columns filled in, in s from `at` on: the values at the wrong points of the polynomial through the row's
-// symbols at the nodes, which are the points of its first right columns.
+// symbols at the nodes, which are the points of its first right columns; ws are the inverses of the rounds over them.
 fn fill_row(
     table: &[u8; LENT],
     degree: u32,
@@ -95,6 +96,7 @@ fn fill_row(
     wrong: &[u8],
     flags: &[u8],
     marks: &[u8],
+    ws: &[u8],
     row: &[u8],
     s: &mut [u8],
     at: usize,
@@ -102,20 +104,62 @@ fn fill_row(
     requires { ⌜ (badDegree degree ≡ false) × IsTable degree (now table) × Points degree (now nodes) × All (IsSymbol degree) (now wrong) ⌝ }
     requires { ⌜ (length (now row) ≡ length (now flags)) × (length (now marks) ≡ length (now flags)) × (length (now flags) ≤ 96) × All (IsSymbol degree) (now row) ⌝ }
     requires { ⌜ (0 < length (now nodes)) × (length (now nodes) ≤ length (right (now flags) (now row))) × (length (now wrong) ≤ 96) ⌝ }
-    requires { ⌜ (total (zerosIn (now marks)) ≡ length (now wrong)) × (at + length (now flags) ≤ length (now s)) ⌝ }
+    requires { ⌜ (total (zerosIn (now marks)) ≡ length (now wrong)) × (at + length (now flags) ≤ length (now s)) × Inverses degree (now nodes) (length (now nodes)) (now ws) ⌝ }
     ensures { λ _. ⌜ now (s .exit) ≡ lay at (refilled degree (now (nodes .entry)) (now (wrong .entry)) (now (flags .entry)) (now (marks .entry)) (now (row .entry))) (now (s .entry)) ⌝ }
 {
     let mut us = [0u8; 96];
     let mut vs = [0u8; 96];
     gather(flags, row, &mut us);
-    rows::reduce(table, degree, nodes, nodes.len(), &mut us, 0);
+    rows::lent::reduce(table, degree, nodes, nodes.len(), ws, &mut us, 0);
     rows::evaluate(table, degree, wrong, nodes, &us[..nodes.len()], &mut vs, 0);
     merge(marks, &vs[..wrong.len()], row, s, at);
 }
 
 // The rows of the received array with the wrong columns filled in, at the front of s. Of the points, the good ones are those
-// of the right columns.
+// of the right columns; ws are the inverses of the rounds over the first of these, as many as the longest row has coefficients.
 fn fill_rows(
+    table: &[u8; LENT],
+    degree: u32,
+    lengths: &[u8],
+    points: &[u8],
+    good: &[u8],
+    wrong: &[u8],
+    flags: &[u8],
+    marks: &[u8],
+    ws: &[u8],
+    received: &[u8],
+    s: &mut [u8],
+)
+    requires { ⌜ Counts (codeOf degree (now points) (now lengths)) × Proper (codeOf degree (now points) (now lengths)) ⌝ }
+    requires { ⌜ IsArray (codeOf degree (now points) (now lengths)) (now received) × IsTable degree (now table) × (length (now s) ≡ 384) ⌝ }
+    requires { ⌜ (now flags ≡ zerosIn (now marks)) × (length (now marks) ≡ length (now points)) × Room (length (now points)) (total (now flags)) (now lengths) ⌝ }
+    requires { ⌜ (now good ≡ right (now flags) (now points)) × (now wrong ≡ right (now marks) (now points))
+        × Inverses degree (take (largest (now lengths)) (now good)) (largest (now lengths)) (now ws) ⌝ }
+    ensures { λ _. ⌜ now (s .exit) ≡ lay 0 (filled (codeOf degree (now (points .entry)) (now (lengths .entry))) (now (received .entry)) (now (flags .entry))) (now (s .entry)) ⌝ }
+{
+    let mut at = 0;
+    let mut l = 0;
+    while l < lengths.len() {
+        fill_row(
+            table,
+            degree,
+            &good[..wide(lengths[l])],
+            wrong,
+            flags,
+            marks,
+            ws,
+            &received[at..at + points.len()],
+            s,
+            at,
+        );
+        at += points.len();
+        l += 1;
+    }
+}
+
+// The received array with the wrong columns filled in, at the front of s. Of the points, the good ones are those of the right
+// columns.
+fn fill_wrong(
     table: &[u8; LENT],
     degree: u32,
     lengths: &[u8],
@@ -133,23 +177,22 @@ fn fill_rows(
     requires { ⌜ (now good ≡ right (now flags) (now points)) × (now wrong ≡ right (now marks) (now points)) ⌝ }
     ensures { λ _. ⌜ now (s .exit) ≡ lay 0 (filled (codeOf degree (now (points .entry)) (now (lengths .entry))) (now (received .entry)) (now (flags .entry))) (now (s .entry)) ⌝ }
 {
-    let mut at = 0;
-    let mut l = 0;
-    while l < lengths.len() {
-        fill_row(
-            table,
-            degree,
-            &good[..wide(lengths[l])],
-            wrong,
-            flags,
-            marks,
-            &received[at..at + points.len()],
-            s,
-            at,
-        );
-        at += points.len();
-        l += 1;
-    }
+    let mut ws = [0u8; 9216];
+    let k = checks::largest(lengths);
+    rows::lent::all_inverses(table, degree, &good[..k], k, &mut ws);
+    fill_rows(
+        table,
+        degree,
+        lengths,
+        points,
+        good,
+        wrong,
+        flags,
+        marks,
+        &ws,
+        received,
+        s,
+    );
 }
 
 // The received array with its wrong columns filled in, at the front of s. A column is wrong where its mark, the locator's value
@@ -173,7 +216,7 @@ fn fill(
     let mut wrong = [0u8; 96];
     let g = gather(flags, points, &mut good);
     let w = gather(marks, points, &mut wrong);
-    fill_rows(
+    fill_wrong(
         table,
         degree,
         lengths,

@@ -4,6 +4,7 @@
 --   room            so it is for t up to n − k_max
 --   joint-room      so it is up to the joint limit
 --   safe-room       and for the sum of two sizes up to the safe limit
+--   room-largest    and then the largest k is at most n − t
 -- Assumes nothing.
 use mathlib.Core.List.{List, [], _∷_}
 use Prim.Native.Nat.{ℕ, _+_, _-_, _≤_}
@@ -22,6 +23,11 @@ below n t b (k ∷ ks) h l w = (here (omega arith) l (w .0 .1), below n t b ks (
   where
     here : k ≤ b → t ≤ n - b → k ≤ n → k + t ≤ n
     here p q s = omega arith
+
+pub room-largest : (n t : ℕ) (ks : List ℕ) → Room n t ks → largest ks ≤ n - t
+unfolding largest
+room-largest n t [] r = omega arith
+room-largest n t (k ∷ ks) r = omega (arith, r .0, room-largest n t ks (r .1))
 
 module _ {c : Code} (p : Proper c) where
   pub room : {t : ℕ} → t ≤ columns c - largest (c .lengths) → Room (columns c) t (c .lengths)

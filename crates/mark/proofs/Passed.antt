@@ -4,17 +4,18 @@
 --   stopped, passed-on    over cs ++ ds the first check of cs that applies decides; where none does, ds decides
 --   front-passed          where no check of cs ++ ds applies, none of cs does
 --   total-most, largest-most    lengths up to n: their sum is at most n for each, and the largest at most n
+--   up-to-largest         no length is above the largest
 --   Counts c              what checks 1 to 4 leave; counted, from them and whatever checks follow; counts-of, from them alone
 --   PassedEncoding, PassedReading, PassedDecoding    what the checks of a call leave; encoding, reading, decoding, from them
 -- Assumes nothing.
 use mathlib.Core.Path.{_≡_, refl, sym, _∙_}
 use mathlib.Core.Bool.{Bool, true, false}
 use mathlib.Core.List.{List, [], _∷_, _++_}
-use Prim.Native.Nat.{ℕ, zero, suc, _*_, _≤_}
+use Prim.Native.Nat.{ℕ, zero, suc, _*_, _≤_, _<_}
 use native.Mathlib.Nat.{suc-mul, mul-le-mul}
 use native.Mathlib.Omega.{arith}
 use lib.Dec.{ltb}
-use lib.ListN.{length}
+use lib.ListN.{length, getD}
 use borrow.Author.Tests.{eqb-true, ltb-false, not-false}
 use Rattle.refusal.specs.Refusal.{Check, _when_, first, badDegree, badPoints, someOutsideField}
 use Rattle.refusal.proofs.Laws.{within, clear}
@@ -57,6 +58,12 @@ pub largest-most : (n : ℕ) (ks : List ℕ) → Within 1 n ks → largest ks �
 unfolding largest
 largest-most n [] h = omega arith
 largest-most n (k ∷ ks) h = omega (arith, h .0 .1, largest-most n ks (h .1))
+
+pub up-to-largest : (ks : List ℕ) (l : ℕ) → l < length ks → getD ks l 0 ≤ largest ks
+unfolding largest
+up-to-largest [] l h = absurd (omega arith)
+up-to-largest (k ∷ ks) zero h = omega arith
+up-to-largest (k ∷ ks) (suc l) h = omega (arith, up-to-largest ks l (omega arith))
 
 pub record Counts (c : Code) : Type 0 where
   pub degree : badDegree (c .degree) ≡ false

@@ -12,8 +12,8 @@ ghost use Rattle.field.specs.Arithmetic.{gf};
 ghost use Rattle.field.specs.Tables.{IsTable};
 ghost use Rattle.poly.specs.Poly.{All, Zero};
 ghost use Rattle.poly.proofs.Forms.{reduce, fromNewton};
-ghost use Rattle.rows.specs.Rows.{Points};
-ghost use Rattle.mark.specs.Code.{CodeArray, IsArray, IsMessage, codeOf, encoded};
+ghost use Rattle.rows.specs.Rows.{Points, Inverses};
+ghost use Rattle.mark.specs.Code.{CodeArray, IsArray, IsMessage, codeOf, encoded, largest};
 ghost use Rattle.mark.specs.Checks.{codeChecks, readChecks};
 use crate::checks;
 use field::tables;
@@ -33,41 +33,45 @@ fn all_zero(s: &[u8]) -> bool
     true
 }
 
-// The polynomial of a row's first k divided differences, in s from `at` on, and whether the reduced values are all zero.
+// The polynomial of a row's first k divided differences, in s from `at` on, and whether the reduced values are all zero; ws
+// are the inverses of the rounds.
 fn read_row(
     table: &[u8; LENT],
     degree: u32,
     points: &[u8],
     k: usize,
+    ws: &[u8],
     row: &[u8],
     s: &mut [u8],
     at: usize,
 ) -> bool
     requires { ⌜ (badDegree degree ≡ false) × IsTable degree (now table) × Points degree (now points) ⌝ }
     requires { ⌜ (k ≤ length (now points)) × (length (now points) ≤ 96) × (at + k ≤ length (now s)) ⌝ }
-    requires { ⌜ (length (now row) ≡ length (now points)) × All (IsSymbol degree) (now row) ⌝ }
+    requires { ⌜ (length (now row) ≡ length (now points)) × All (IsSymbol degree) (now row) × Inverses degree (now points) k (now ws) ⌝ }
     ensures { λ r. ⌜ ((r ≡ true) ↔ Zero (gf degree) (drop k (reduce (gf degree) k (now (points .entry)) (now (row .entry)))))
         × (now (s .exit) ≡ lay at (fromNewton (gf degree) k (now (points .entry)) (reduce (gf degree) k (now (points .entry)) (now (row .entry)))) (now (s .entry))) ⌝ }
 {
     let mut held = [0u8; 96];
     rows::store(row, &mut held, 0);
-    rows::reduce(table, degree, points, k, &mut held, 0);
+    rows::lent::reduce(table, degree, points, k, ws, &mut held, 0);
     rows::coefficients(table, degree, points, &held[..k], s, at);
     all_zero(&held[k..row.len()])
 }
 
-// Row after row, at the front of s: the message of a code array. Answers whether the array is one.
+// Row after row, at the front of s: the message of a code array, ws being the inverses of the longest row's rounds. Answers
+// whether the array is one.
 fn read_rows(
     table: &[u8; LENT],
     degree: u32,
     lengths: &[u8],
     points: &[u8],
+    ws: &[u8],
     array: &[u8],
     s: &mut [u8],
 ) -> bool
     requires { ⌜ 0 ≡ first (codeChecks (codeOf degree (now points) (now lengths))) ⌝ }
     requires { ⌜ Points degree (now points) × IsArray (codeOf degree (now points) (now lengths)) (now array) ⌝ }
-    requires { ⌜ IsTable degree (now table) × (length (now s) ≡ 384) ⌝ }
+    requires { ⌜ IsTable degree (now table) × (length (now s) ≡ 384) × Inverses degree (now points) (largest (now lengths)) (now ws) ⌝ }
     ensures { λ r. ⌜ (r ≡ true → (m : List ℕ) × IsMessage (codeOf degree (now (points .entry)) (now (lengths .entry))) m
         × (encoded (codeOf degree (now (points .entry)) (now (lengths .entry))) m ≡ now (array .entry)) × (now (s .exit) ≡ lay 0 m (now (s .entry))))
         × (r ≡ false → CodeArray (codeOf degree (now (points .entry)) (now (lengths .entry))) (now (array .entry)) → ⊥) ⌝ }
@@ -82,6 +86,7 @@ fn read_rows(
             degree,
             points,
             k,
+            ws,
             &array[from..from + points.len()],
             s,
             at,
@@ -93,6 +98,28 @@ fn read_rows(
         l += 1;
     }
     true
+}
+
+// The message of a code array, at the front of s. Answers whether the array is one.
+fn read_array(
+    table: &[u8; LENT],
+    degree: u32,
+    lengths: &[u8],
+    points: &[u8],
+    array: &[u8],
+    s: &mut [u8],
+) -> bool
+    requires { ⌜ 0 ≡ first (codeChecks (codeOf degree (now points) (now lengths))) ⌝ }
+    requires { ⌜ Points degree (now points) × IsArray (codeOf degree (now points) (now lengths)) (now array) ⌝ }
+    requires { ⌜ IsTable degree (now table) × (length (now s) ≡ 384) ⌝ }
+    ensures { λ r. ⌜ (r ≡ true → (m : List ℕ) × IsMessage (codeOf degree (now (points .entry)) (now (lengths .entry))) m
+        × (encoded (codeOf degree (now (points .entry)) (now (lengths .entry))) m ≡ now (array .entry)) × (now (s .exit) ≡ lay 0 m (now (s .entry))))
+        × (r ≡ false → CodeArray (codeOf degree (now (points .entry)) (now (lengths .entry))) (now (array .entry)) → ⊥) ⌝ }
+{
+    let mut ws = [0u8; 9216];
+    let k = checks::largest(lengths);
+    rows::lent::all_inverses(table, degree, points, k, &mut ws);
+    read_rows(table, degree, lengths, points, &ws, array, s)
 }
 
 // Writes the message of a code array, and answers whether the array is one; where it is none the message's buffer is left as
@@ -114,7 +141,7 @@ pub(crate) fn write_message(
     let mut held = [0u8; 96];
     let mut made = [0u8; 384];
     bytes::copy(points, &mut held);
-    let good = read_rows(
+    let good = read_array(
         &table,
         degree,
         lengths,

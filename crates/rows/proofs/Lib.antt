@@ -1,4 +1,5 @@
 pub mod Symbols
 pub mod Rounds
+pub mod Sharing
 pub mod Evaluation
 pub mod Newton

@@ -7,6 +7,7 @@
 --   reduce-more     one round more
 --   round-of-row    the same as a patch of the row
 --   round-step      the same of a row that lies in a list
+--   round-symbols   after some rounds the row still has symbols
 -- Assumes nothing.
 use mathlib.Core.Path.{_≡_, refl, sym, ap, _∙_}
 use mathlib.Core.Bool.{false}
@@ -21,7 +22,7 @@ use lib.Seq.{getD-drop}
 use Rattle.patch.specs.Patch.{patch}
 use Rattle.patch.specs.Parts.{part, lay}
 use Rattle.patch.proofs.Laws.{patch-cong}
-use Rattle.patch.proofs.Parts.{part-at, lay-end, part-lay, patch-is-lay, patch-lay}
+use Rattle.patch.proofs.Parts.{length-part, part-at, lay-end, part-lay, patch-is-lay, patch-lay}
 use Rattle.refusal.specs.Refusal.{badDegree}
 use Rattle.field.specs.Symbols.{plus, times, over}
 use Rattle.field.specs.Lists.{multiplied, SymbolsAt}
@@ -30,9 +31,9 @@ use Rattle.field.proofs.Instance.{field}
 use Rattle.poly.proofs.Forms.{apart, reduce}
 use Rattle.poly.proofs.Ring.{plus-apart, plus-zero, over-unique, times-over, one-times}
 use Rattle.poly.proofs.Roots.{Mem, Distinct}
-use Rattle.poly.proofs.Differences.{length-apart, length-reduce}
-use Rattle.rows.specs.Rows.{Points, inverse, difference}
-use Rattle.rows.proofs.Symbols.{symbol-at}
+use Rattle.poly.proofs.Differences.{length-apart, length-reduce, symbols-reduce}
+use Rattle.rows.specs.Rows.{Points, RoundInverses, inverse, difference}
+use Rattle.rows.proofs.Symbols.{symbol-at, symbols-part, symbols-lay}
 
 mem-at : (x : ℕ) (xs : List ℕ) (i : ℕ) → i < length xs → x ≡ getD xs i 0 → Mem x xs
 mem-at x [] i h e = absurd (omega arith)
@@ -104,19 +105,25 @@ module _ (d : ℕ) (good : badDegree d ≡ false) where
       (patch-lay at (j + 1) (length xs - (j + 1)) (difference d xs v j) v l (omega arith) (omega arith)
       ∙ ap (λ (r : List ℕ). lay at r l) (round-of-row j xs v size h ∙ rw add-one (sym (reduce-more j xs us e h))))
 
+  pub round-symbols : (at j : ℕ) (xs l : List ℕ) {s : List ℕ} → at + length xs ≤ length l → SymbolsAt d l at (length xs)
+      → s ≡ lay at (reduce (gf d) j xs (part at (length xs) l)) l → SymbolsAt d s at (length xs)
+  round-symbols at j xs l fits symbols is =
+      let us : List ℕ = part at (length xs) l in
+      symbols-lay d at (reduce (gf d) j xs us) l is (length-reduce (gf d) (field d good) j xs us (length-part at (length xs) l fits)) fits
+      (symbols-reduce (gf d) (field d good) j xs us (symbols-part d at (length xs) l fits symbols))
+
 -- a round as the code works it out, w being the inverses
 module _ (d : ℕ) (good : badDegree d ≡ false) (at j : ℕ) (xs l w : List ℕ) (h : j < length xs) (fits : at + length xs ≤ length l)
-    (points : Points d xs) (symbols : SymbolsAt d l at (length xs)) (size : length w ≡ length xs - (j + 1))
-    (is : (i : ℕ) → i < length xs - (j + 1) → getD w i 0 ≡ inverse d xs j i) where
+    (points : Points d xs) (symbols : SymbolsAt d l at (length xs)) (given : RoundInverses d xs j w) where
   later : (i : ℕ) → i < length xs - (j + 1) → getD l (at + (j + 1) + i) 0 < 2 ^ d
   later i k = rw (add-assoc at (j + 1) i) (symbols (j + 1 + i) (omega arith))
 
   pub later-symbols : SymbolsAt d l (at + (j + 1)) (length w)
-  later-symbols i k = later i (omega arith)
+  later-symbols i k = later i (omega (arith, given .count))
 
   pub inverse-symbols : SymbolsAt d w 0 (length w)
   unfolding inverse
-  inverse-symbols i k = rw (zero-add i, is i (omega arith)) (field d good .over-in _ _)
+  inverse-symbols i k = rw (zero-add i, given .each i (omega (arith, given .count))) (field d good .over-in _ _)
 
   multiplied-is : (i : ℕ) → i < length xs - (j + 1)
       → multiplied d w 0 l (at + (j + 1)) (getD l (at + j) 0) i ≡ difference d xs (part at (length xs) l) j i
@@ -126,10 +133,10 @@ module _ (d : ℕ) (good : badDegree d ≡ false) (at j : ℕ) (xs l w : List �
       let y : ℕ = plus (getD xs (j + 1 + i) 0) (getD xs j 0) in
       let u-in : u < 2 ^ d = field d good .plus-in _ _ (later i k) (symbols j h) in
       let y-in : y < 2 ^ d = field d good .plus-in _ _ (symbol-at d xs (j + 1 + i) (points .symbols) (omega arith)) (symbol-at d xs j (points .symbols) h) in
-      ap (λ (v : ℕ). times d (plus v 0) u) (is i k)
+      ap (λ (v : ℕ). times d (plus v 0) u) (given .each i k)
       ∙ times-inverse d good u y u-in y-in (divisor d good xs j (j + 1 + i) points (omega arith) (omega arith))
       ∙ rw (part-at at (length xs) l (j + 1 + i) (omega arith), part-at at (length xs) l j h, add-assoc at (j + 1) i)
 
   pub round-multiplied : {t : List ℕ} → t ≡ patch (at + (j + 1)) (length w) (multiplied d w 0 l (at + (j + 1)) (getD l (at + j) 0)) l
       → t ≡ patch (at + (j + 1)) (length xs - (j + 1)) (difference d xs (part at (length xs) l) j) l
-  round-multiplied then = then ∙ rw size (patch-cong (at + (j + 1)) (length xs - (j + 1)) _ _ l multiplied-is)
+  round-multiplied then = then ∙ rw (given .count) (patch-cong (at + (j + 1)) (length xs - (j + 1)) _ _ l multiplied-is)

@@ -14,10 +14,12 @@ ghost use Rattle.field.specs.Tables.{IsTable};
 ghost use Rattle.field.specs.Lists.{SymbolsAt};
 ghost use Rattle.poly.specs.Poly.{All, valuesAt};
 ghost use Rattle.poly.proofs.Forms.{lin, reduce, fromNewton, newtonValue};
-ghost use Rattle.rows.specs.Rows.{Points, inverse, difference};
+ghost use Rattle.rows.specs.Rows.{Points, RoundInverses, inverse, difference};
 use field::lists;
 use field::tables;
 use field::tables::LENT;
+
+pub mod lent;
 
 // For the crates above: n symbols of s from `at` on become zero.
 pub fn clear(s: &mut [u8], at: usize, n: usize)
@@ -55,51 +57,59 @@ pub fn store(w: &[u8], s: &mut [u8], at: usize)
     }
 }
 
-// For the crates above: the inverses of the differences between the points behind the j-th and the j-th.
-pub fn inverses(table: &[u8; LENT], degree: u32, points: &[u8], j: usize, w: &mut [u8])
+// For the crates above: the inverses of the differences between the points behind the j-th and the j-th, in w from `at` on.
+pub fn inverses(table: &[u8; LENT], degree: u32, points: &[u8], j: usize, w: &mut [u8], at: usize)
     requires { ⌜ (badDegree degree ≡ false) × IsTable degree (now table) × Points degree (now points) ⌝ }
-    requires { ⌜ (j < length (now points)) × (length (now points) ≤ length (now w)) ⌝ }
-    ensures { λ _. ⌜ now (w .exit) ≡ patch 0 (length (now (points .entry)) - (j + 1)) (inverse degree (now (points .entry)) j) (now (w .entry)) ⌝ }
+    requires { ⌜ (j < length (now points)) × (at + length (now points) ≤ length (now w)) ⌝ }
+    ensures { λ _. ⌜ now (w .exit) ≡ patch at (length (now (points .entry)) - (j + 1)) (inverse degree (now (points .entry)) j) (now (w .entry)) ⌝ }
 {
     let mut i = 0;
     while i < points.len() - (j + 1) {
-        w[i] = tables::quotient_from(table, degree, 1, points[j + 1 + i] ^ points[j]);
+        w[at + i] = tables::quotient_from(table, degree, 1, points[j + 1 + i] ^ points[j]);
         i += 1;
     }
 }
 
-// For the crates above: round j of the divided differences of the row of s from `at` on.
-pub fn round(table: &[u8; LENT], degree: u32, points: &[u8], j: usize, s: &mut [u8], at: usize)
+// For the crates above: round j of the divided differences of the row of s from `at` on, w being the inverses of the round.
+pub fn round(
+    table: &[u8; LENT],
+    degree: u32,
+    points: &[u8],
+    j: usize,
+    w: &[u8],
+    s: &mut [u8],
+    at: usize,
+)
     requires { ⌜ (badDegree degree ≡ false) × IsTable degree (now table) × Points degree (now points) ⌝ }
-    requires { ⌜ (j < length (now points)) × (length (now points) ≤ 96) × (at + length (now points) ≤ length (now s)) ⌝ }
-    requires { ⌜ SymbolsAt degree (now s) at (length (now points)) ⌝ }
+    requires { ⌜ (j < length (now points)) × (at + length (now points) ≤ length (now s)) × SymbolsAt degree (now s) at (length (now points)) ⌝ }
+    requires { ⌜ RoundInverses degree (now points) j (now w) ⌝ }
     ensures { λ _. ⌜ now (s .exit) ≡ patch (at + (j + 1)) (length (now (points .entry)) - (j + 1)) (difference degree (now (points .entry)) (part at (length (now (points .entry))) (now (s .entry))) j) (now (s .entry)) ⌝ }
 {
-    let mut w = [0u8; 96];
-    inverses(table, degree, points, j, &mut w);
     let b = s[at + j];
-    lists::multiply(
-        table,
-        degree,
-        &w[..points.len() - (j + 1)],
-        0,
-        s,
-        at + (j + 1),
-        b,
-    );
+    lists::multiply(table, degree, w, 0, s, at + (j + 1), b);
 }
 
 // For the crates above: k rounds of divided differences of the row of s from `at` on. The first k symbols of the row are then
-// its Newton coefficients, and the rest are the reduced values.
+// its Newton coefficients, and the rest are the reduced values. Rows over the same points are reduced by lent inverses.
 pub fn reduce(table: &[u8; LENT], degree: u32, points: &[u8], k: usize, s: &mut [u8], at: usize)
     requires { ⌜ (badDegree degree ≡ false) × IsTable degree (now table) × Points degree (now points) ⌝ }
     requires { ⌜ (k ≤ length (now points)) × (length (now points) ≤ 96) × (at + length (now points) ≤ length (now s)) ⌝ }
     requires { ⌜ SymbolsAt degree (now s) at (length (now points)) ⌝ }
     ensures { λ _. ⌜ now (s .exit) ≡ lay at (reduce (gf degree) k (now (points .entry)) (part at (length (now (points .entry))) (now (s .entry)))) (now (s .entry)) ⌝ }
 {
+    let mut w = [0u8; 96];
     let mut j = 0;
     while j < k {
-        round(table, degree, points, j, s, at);
+        inverses(table, degree, points, j, &mut w, 0);
+        round(
+            table,
+            degree,
+            points,
+            j,
+            &w[..points.len() - (j + 1)],
+            s,
+            at,
+        );
         j += 1;
     }
 }

@@ -10,16 +10,16 @@ use Rattle.rows.specs.Rows.{inverse}
 use Rattle.rows.proofs.Symbols.{symbol-at}
 use Rattle.rows.proofs.Rounds.{divisor}
 use Rattle.patch.specs.Patch.{patch}
-use Rattle.patch.proofs.Laws.{patch-none, length-patch, patch-front}
+use Rattle.patch.proofs.Laws.{patch-none, length-patch, patch-step}
 use borrow.Author.Needs.{needs}
 use Rattle.rows.proofs.inverses.Statement.{statement}
 use Rattle.rows.proofs.inverses.Tie as tie
 
 abbrev Inv-loop : tie.InvT-loop
-Inv-loop table degree points j w₀ i₀ w i = (i ≤ length points - (j + 1)) × (w ≡ patch 0 i (inverse degree points j) w₀)
+Inv-loop table degree points j w₀ at i₀ w i = (i ≤ length points - (j + 1)) × (w ≡ patch at i (inverse degree points j) w₀)
 
 abbrev μ-loop : tie.MeasureT-loop
-μ-loop table degree points j w₀ i₀ w i = length points - (j + 1) - i
+μ-loop table degree points j w₀ at i₀ w i = length points - (j + 1) - i
 
 loop-holds : tie.Need-loop-holds Inv-loop μ-loop
 loop-holds c = (search needs, sym (patch-none _ _ _))
@@ -65,6 +65,9 @@ quotient-from-requires c κs =
       ),
     )
 
+add-w : tie.Need-add-w Inv-loop μ-loop
+add-w c = search needs
+
 slice-write-w : tie.Need-slice-write-w Inv-loop μ-loop
 slice-write-w c = rw (c .before .before .before .before .loop .inv .1) (rw length-patch (omega (arith, c .before .before .before .loop-test .taken, c .before .before .before .before .before .before .before .pre .1)))
 
@@ -78,7 +81,7 @@ loop-again : tie.Need-loop-again Inv-loop μ-loop
 unfolding plus inverse
 loop-again c =
     let inv = c .before .before .before .before .loop .inv .1 in
-    (omega (arith, c .before .before .before .loop-test .taken), patch-front _ _ _ inv (c .quotient-from .ensures))
+    (omega (arith, c .before .before .before .loop-test .taken), patch-step _ _ _ _ inv (c .quotient-from .ensures))
 
 same-length : tie.Need-same-length Inv-loop μ-loop
 same-length c = rw (c .before .loop .inv .1) (length-patch _ _ _ _)
@@ -102,6 +105,7 @@ inverses-spec =
     shared-slice-read-quotient-from
     shared-slice-read-quotient-from-2
     quotient-from-requires
+    add-w
     slice-write-w
     add-i
     loop-less

@@ -23,12 +23,15 @@ slice-aggregate-reduce c = search needs
 
 reduce-requires : tie.Need-reduce-requires
 reduce-requires c κs =
-    let start = c .before .before .before .before .before .before in
+    let start = c .before .before .before .before .before .before .before in
     let p = start .pre in (
       p .0,
       (
         (p .1 .0 .0, omega (arith, p .1 .0 .1), omega (arith, p .1 .0 .1, c .before .before .store .kept .1 .0)),
-        symbols-lay (start .args .degree) 0 (start .args .row .now) _ (c .before .before .store .ensures) (p .1 .0 .2) (omega (arith, p .1 .0 .1)) (p .1 .1),
+        (
+          symbols-lay (start .args .degree) 0 (start .args .row .now) _ (c .before .before .store .ensures) (p .1 .0 .2) (omega (arith, p .1 .0 .1)) (p .1 .1 .0),
+          p .1 .1 .1,
+        ),
       ),
     )
 
@@ -47,12 +50,12 @@ some-outside-requires c κs = search needs
 -- the reduced values, as the code has them
 module _ (c : tie.After-some-outside) where
   abbrev start : tie.Start
-  start = c .before .before .before .before .before .before .before .before .before .before .before
+  start = c .before .before .before .before .before .before .before .before .before .before .before .before
 
   given : Given (start .args .degree) (start .args .points .now) (start .args .k) (start .args .row .now)
   given =
       let p = start .pre in
-      record { degree = p .0 .0; points = p .0 .2; length-in = p .1 .0 .0; symbols = p .1 .1; count = p .1 .0 .2 }
+      record { degree = p .0 .0; points = p .0 .2; length-in = p .1 .0 .0; symbols = p .1 .1 .0; count = p .1 .0 .2 }
 
   nonzero : c .some-outside .result
       ≡ someOutside 0 0 (drop (start .args .k) (reduce (gf (start .args .degree)) (start .args .k) (start .args .points .now) (start .args .row .now)))

@@ -24,9 +24,9 @@ slice-aggregate-reduce : tie.Need-slice-aggregate-reduce
 slice-aggregate-reduce c = search needs
 
 reduce-requires : tie.Need-reduce-requires
-reduce-requires c κs = let start = c .before .before .before .before .before .before .before .before in
+reduce-requires c κs = let start = c .before .before .before .before .before .before .before .before .before in
     let p = start .pre in
-    (p .0, ((p .1 .0 .0, p .1 .0 .1, omega (arith, p .1 .0 .1, c .before .before .store .kept .1 .0)), symbols-lay (start .args .degree) 0 (start .args .row .now) (replicate 96 0) (c .before .before .store .ensures) (p .1 .0 .2) (omega (arith, p .1 .0 .1)) (p .1 .0 .3)))
+    (p .0, ((p .1 .0 .0, p .1 .0 .1, omega (arith, p .1 .0 .1, c .before .before .store .kept .1 .0)), (symbols-lay (start .args .degree) 0 (start .args .row .now) (replicate 96 0) (c .before .before .store .ensures) (p .1 .0 .2) (omega (arith, p .1 .0 .1)) (p .1 .0 .3), p .1 .1 .2)))
 
 sub-store : tie.Need-sub-store
 sub-store c = search needs
@@ -59,7 +59,7 @@ same-length-2 : tie.Need-same-length-2
 same-length-2 c = search needs
 
 returns : tie.Need-returns
-returns c = let start = c .before .before .before .before .before .before .before .before .before .before .before .before .before .before .before .before .before .before .before .before .before in
+returns c = let start = c .before .before .before .before .before .before .before .before .before .before .before .before .before .before .before .before .before .before .before .before .before .before in
     let p = start .pre in
     let left = row-reduced (start .args .degree) (field (start .args .degree) (p .0 .0)) (start .args .points .now) (start .args .k) (start .args .row .now) (replicate 96 0) (c .before .before .before .before .before .before .before .before .before .before .before .before .before .before .before .store .ensures) (c .before .before .before .before .before .before .before .before .before .before .before .before .reduce .ensures) (p .1 .0 .2) (omega (arith, p .1 .0 .1)) (p .1 .0 .0) in
     (c .before .before .before .before .before .before .before .store2 .ensures ∙ ap (λ (v : List ℕ). lay (start .args .at) v (start .args .us .now)) left, c .before .before .store3 .ensures ∙ ap (λ (v : List ℕ). lay (start .args .at) v (start .args .xs .now)) (take-all (length (start .args .points .now) - start .args .k) (drop (start .args .k) (start .args .points .now)) (omega (arith, length-drop (start .args .k) (start .args .points .now)))))

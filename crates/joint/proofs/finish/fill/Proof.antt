@@ -38,17 +38,17 @@ gather-requires-2 c κs = search needs
 array-share-prefix-good : tie.Need-array-share-prefix-good
 array-share-prefix-good c = omega (arith, good (c .before .before .before .before .before .before .before .before .before .before .before .before), c .before .before .before .before .gather .ensures .0, c .before .before .before .before .gather .kept)
 
-slice-aggregate-fill-rows : tie.Need-slice-aggregate-fill-rows
-slice-aggregate-fill-rows c = sym (length-take-le _ (c .before .before .before .before .before .gather .last .1 .1 .0) (omega (arith, good (c .before .before .before .before .before .before .before .before .before .before .before .before .before), c .before .before .before .before .before .gather .ensures .0, c .before .before .before .before .before .gather .kept)))
+slice-aggregate-fill-wrong : tie.Need-slice-aggregate-fill-wrong
+slice-aggregate-fill-wrong c = sym (length-take-le _ (c .before .before .before .before .before .gather .last .1 .1 .0) (omega (arith, good (c .before .before .before .before .before .before .before .before .before .before .before .before .before), c .before .before .before .before .before .gather .ensures .0, c .before .before .before .before .before .gather .kept)))
 
 array-share-prefix-wrong : tie.Need-array-share-prefix-wrong
 array-share-prefix-wrong c = omega (arith, wrong (c .before .before .before .before .before .before .before .before .before .before .before .before .before), c .before .before .gather2 .ensures .0, c .before .before .gather2 .kept)
 
-slice-aggregate-fill-rows-2 : tie.Need-slice-aggregate-fill-rows-2
-slice-aggregate-fill-rows-2 c = sym (length-take-le _ (c .before .before .before .gather2 .last .1 .1 .0) (omega (arith, wrong (c .before .before .before .before .before .before .before .before .before .before .before .before .before .before), c .before .before .before .gather2 .ensures .0, c .before .before .before .gather2 .kept)))
+slice-aggregate-fill-wrong-2 : tie.Need-slice-aggregate-fill-wrong-2
+slice-aggregate-fill-wrong-2 c = sym (length-take-le _ (c .before .before .before .gather2 .last .1 .1 .0) (omega (arith, wrong (c .before .before .before .before .before .before .before .before .before .before .before .before .before .before), c .before .before .before .gather2 .ensures .0, c .before .before .before .gather2 .kept)))
 
-fill-rows-requires : tie.Need-fill-rows-requires
-fill-rows-requires c κs = let p = c .before .before .before .before .before .before .before .before .before .before .before .before .before .before .before .pre in
+fill-wrong-requires : tie.Need-fill-wrong-requires
+fill-wrong-requires c κs = let p = c .before .before .before .before .before .before .before .before .before .before .before .before .before .before .before .pre in
     let a = c .before .before .before .before .before .before .before .before .before .before .before .before .before .before .before .args in (
       p .0,
       (
@@ -78,9 +78,9 @@ fill-spec =
     slice-aggregate-gather-2
     gather-requires-2
     array-share-prefix-good
-    slice-aggregate-fill-rows
+    slice-aggregate-fill-wrong
     array-share-prefix-wrong
-    slice-aggregate-fill-rows-2
-    fill-rows-requires
+    slice-aggregate-fill-wrong-2
+    fill-wrong-requires
     same-length
     returns)

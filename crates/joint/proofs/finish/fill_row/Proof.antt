@@ -40,40 +40,40 @@ slice-aggregate-reduce : tie.Need-slice-aggregate-reduce
 slice-aggregate-reduce c = search needs
 
 reduce-requires : tie.Need-reduce-requires
-reduce-requires c κs = let p = c .before .before .before .before .before .before .before .before .before .before .pre in
-    let d = c .before .before .before .before .before .before .before .before .before .before .args .degree in
-    let symbols = symbols-lay d 0 (gathered (c .before .before .before .before .before .before .before .before .before .before)) (replicate 96 0) (c .before .before .gather .ensures .1) refl (omega (arith, fits (c .before .before .before .before .before .before .before .before .before .before))) (all-right (IsSymbol d) (c .before .before .before .before .before .before .before .before .before .before .args .flags .now) (c .before .before .before .before .before .before .before .before .before .before .args .row .now) (p .1 .0 .3)) in (
+reduce-requires c κs = let p = c .before .before .before .before .before .before .before .before .before .before .before .pre in
+    let d = c .before .before .before .before .before .before .before .before .before .before .before .args .degree in
+    let symbols = symbols-lay d 0 (gathered (c .before .before .before .before .before .before .before .before .before .before .before)) (replicate 96 0) (c .before .before .gather .ensures .1) refl (omega (arith, fits (c .before .before .before .before .before .before .before .before .before .before .before))) (all-right (IsSymbol d) (c .before .before .before .before .before .before .before .before .before .before .before .args .flags .now) (c .before .before .before .before .before .before .before .before .before .before .before .args .row .now) (p .1 .0 .3)) in (
       (p .0 .0, p .0 .1, p .0 .2),
       (
-        (omega arith, few (c .before .before .before .before .before .before .before .before .before .before), omega (arith, few (c .before .before .before .before .before .before .before .before .before .before), c .before .before .gather .kept)),
-        λ k h. symbols k (omega (arith, p .1 .1 .0 .1)),
+        (omega arith, few (c .before .before .before .before .before .before .before .before .before .before .before), omega (arith, few (c .before .before .before .before .before .before .before .before .before .before .before), c .before .before .gather .kept)),
+        (λ k h. symbols k (omega (arith, p .1 .1 .0 .1)), p .1 .1 .1 .2),
       ),
     )
 
 array-share-prefix-us : tie.Need-array-share-prefix-us
-array-share-prefix-us c = omega (arith, few (c .before .before .before .before .before .before .before .before .before .before .before .before), c .before .reduce .kept, c .before .before .before .before .gather .kept)
+array-share-prefix-us c = omega (arith, few (c .before .before .before .before .before .before .before .before .before .before .before .before .before), c .before .reduce .kept, c .before .before .before .before .gather .kept)
 
 slice-aggregate-evaluate : tie.Need-slice-aggregate-evaluate
-slice-aggregate-evaluate c = sym (length-take-le _ (c .before .before .reduce .last .1 .1 .1 .1 .0) (omega (arith, few (c .before .before .before .before .before .before .before .before .before .before .before .before .before), c .before .before .reduce .kept, c .before .before .before .before .before .gather .kept)))
+slice-aggregate-evaluate c = sym (length-take-le _ (c .before .before .reduce .last .1 .1 .1 .1 .1 .0) (omega (arith, few (c .before .before .before .before .before .before .before .before .before .before .before .before .before .before), c .before .before .reduce .kept, c .before .before .before .before .before .gather .kept)))
 
 slice-aggregate-evaluate-2 : tie.Need-slice-aggregate-evaluate-2
 slice-aggregate-evaluate-2 c = search needs
 
 evaluate-requires : tie.Need-evaluate-requires
-evaluate-requires c κs = let p = c .before .before .before .before .before .before .before .before .before .before .before .before .before .before .pre in
-    let d = c .before .before .before .before .before .before .before .before .before .before .before .before .before .before .args .degree in
-    let k : ℕ = length (c .before .before .before .before .before .before .before .before .before .before .before .before .before .before .args .nodes .now) in
+evaluate-requires c κs = let p = c .before .before .before .before .before .before .before .before .before .before .before .before .before .before .before .pre in
+    let d = c .before .before .before .before .before .before .before .before .before .before .before .before .before .before .before .args .degree in
+    let k : ℕ = length (c .before .before .before .before .before .before .before .before .before .before .before .before .before .before .before .args .nodes .now) in
     let 𝓕 = field d (p .0 .0) in
-    let us = c .before .before .before .reduce .last .1 .1 .1 .1 .0 in
-    let size : length (take k us) ≡ k = length-take-le k us (omega (arith, few (c .before .before .before .before .before .before .before .before .before .before .before .before .before .before), c .before .before .before .reduce .kept, c .before .before .before .before .before .before .gather .kept)) in
-    let is = newton d (c .before .before .before .before .before .before .before .before .before .before .before .before .before .before .args .nodes .now) (c .before .before .before .before .before .before .before .before .before .before .before .before .before .before .args .wrong .now) (c .before .before .before .before .before .before .before .before .before .before .before .before .before .before .args .flags .now) (c .before .before .before .before .before .before .before .before .before .before .before .before .before .before .args .marks .now) (c .before .before .before .before .before .before .before .before .before .before .before .before .before .before .args .row .now) (replicate 96 0) (c .before .before .before .before .before .before .gather .ensures .1) (c .before .before .before .reduce .ensures) (p .1 .1 .0 .1) (fits (c .before .before .before .before .before .before .before .before .before .before .before .before .before .before)) 𝓕 in (
+    let us = c .before .before .before .reduce .last .1 .1 .1 .1 .1 .0 in
+    let size : length (take k us) ≡ k = length-take-le k us (omega (arith, few (c .before .before .before .before .before .before .before .before .before .before .before .before .before .before .before), c .before .before .before .reduce .kept, c .before .before .before .before .before .before .gather .kept)) in
+    let is = newton d (c .before .before .before .before .before .before .before .before .before .before .before .before .before .before .before .args .nodes .now) (c .before .before .before .before .before .before .before .before .before .before .before .before .before .before .before .args .wrong .now) (c .before .before .before .before .before .before .before .before .before .before .before .before .before .before .before .args .flags .now) (c .before .before .before .before .before .before .before .before .before .before .before .before .before .before .before .args .marks .now) (c .before .before .before .before .before .before .before .before .before .before .before .before .before .before .before .args .row .now) (replicate 96 0) (c .before .before .before .before .before .before .gather .ensures .1) (c .before .before .before .reduce .ensures) (p .1 .1 .0 .1) (fits (c .before .before .before .before .before .before .before .before .before .before .before .before .before .before .before)) 𝓕 in (
       (p .0 .0, p .0 .1),
       (
         (
           p .0 .3,
           p .0 .2 .symbols,
-          rw is (symbols-reduce (gf d) 𝓕 k (c .before .before .before .before .before .before .before .before .before .before .before .before .before .before .args .nodes .now) (take k (gathered (c .before .before .before .before .before .before .before .before .before .before .before .before .before .before)))
-              (all-take (IsSymbol d) k (gathered (c .before .before .before .before .before .before .before .before .before .before .before .before .before .before)) (all-right (IsSymbol d) (c .before .before .before .before .before .before .before .before .before .before .before .before .before .before .args .flags .now) (c .before .before .before .before .before .before .before .before .before .before .before .before .before .before .args .row .now) (p .1 .0 .3)))),
+          rw is (symbols-reduce (gf d) 𝓕 k (c .before .before .before .before .before .before .before .before .before .before .before .before .before .before .before .args .nodes .now) (take k (gathered (c .before .before .before .before .before .before .before .before .before .before .before .before .before .before .before)))
+              (all-take (IsSymbol d) k (gathered (c .before .before .before .before .before .before .before .before .before .before .before .before .before .before .before)) (all-right (IsSymbol d) (c .before .before .before .before .before .before .before .before .before .before .before .before .before .before .before .args .flags .now) (c .before .before .before .before .before .before .before .before .before .before .before .before .before .before .before .args .row .now) (p .1 .0 .3)))),
         ),
         (omega (arith, p .1 .1 .0 .0), omega arith, omega (arith, p .1 .1 .0 .2)),
       ),
@@ -83,22 +83,22 @@ array-share-prefix-vs : tie.Need-array-share-prefix-vs
 array-share-prefix-vs c = search needs
 
 slice-aggregate-merge : tie.Need-slice-aggregate-merge
-slice-aggregate-merge c = sym (length-take-le _ (c .before .before .evaluate .last .1 .1 .1 .1 .1 .0) (omega (arith, c .before .before .before .before .before .before .before .before .before .before .before .before .before .before .before .before .before .pre .1 .1 .0 .2, c .before .before .evaluate .kept)))
+slice-aggregate-merge c = sym (length-take-le _ (c .before .before .evaluate .last .1 .1 .1 .1 .1 .0) (omega (arith, c .before .before .before .before .before .before .before .before .before .before .before .before .before .before .before .before .before .before .pre .1 .1 .0 .2, c .before .before .evaluate .kept)))
 
 merge-requires : tie.Need-merge-requires
-merge-requires c κs = let p = c .before .before .before .before .before .before .before .before .before .before .before .before .before .before .before .before .before .before .pre in
-    let size = length-take-le (length (c .before .before .before .before .before .before .before .before .before .before .before .before .before .before .before .before .before .before .args .wrong .now)) (c .before .before .before .evaluate .last .1 .1 .1 .1 .1 .0) (omega (arith, p .1 .1 .0 .2, c .before .before .before .evaluate .kept)) in
+merge-requires c κs = let p = c .before .before .before .before .before .before .before .before .before .before .before .before .before .before .before .before .before .before .before .pre in
+    let size = length-take-le (length (c .before .before .before .before .before .before .before .before .before .before .before .before .before .before .before .before .before .before .before .args .wrong .now)) (c .before .before .before .evaluate .last .1 .1 .1 .1 .1 .0) (omega (arith, p .1 .1 .0 .2, c .before .before .before .evaluate .kept)) in
     (omega (arith, p .1 .1 .1 .0), p .1 .0 .0 ∙ sym (p .1 .0 .1), omega (arith, p .1 .1 .1 .1, p .1 .0 .1))
 
 same-length : tie.Need-same-length
 same-length c = search needs
 
 returns : tie.Need-returns
-returns c = let p = c .before .before .before .before .before .before .before .before .before .before .before .before .before .before .before .before .before .before .before .before .before .pre in
-    let a = c .before .before .before .before .before .before .before .before .before .before .before .before .before .before .before .before .before .before .before .before .before .args in
+returns c = let p = c .before .before .before .before .before .before .before .before .before .before .before .before .before .before .before .before .before .before .before .before .before .before .pre in
+    let a = c .before .before .before .before .before .before .before .before .before .before .before .before .before .before .before .before .before .before .before .before .before .before .args in
     c .before .before .merge .ensures
     ∙ ap (λ (v : List ℕ). lay (a .at) v (a .s .now))
-    (row-filled (a .degree) (a .nodes .now) (a .wrong .now) (a .flags .now) (a .marks .now) (a .row .now) (replicate 96 0) (c .before .before .before .before .before .before .before .before .before .before .before .before .before .gather .ensures .1) (c .before .before .before .before .before .before .before .before .before .before .reduce .ensures) (p .1 .1 .0 .1) (fits (c .before .before .before .before .before .before .before .before .before .before .before .before .before .before .before .before .before .before .before .before .before)) (field (a .degree) (p .0 .0)) (replicate 96 0) (c .before .before .before .before .before .before .evaluate .ensures) (omega (arith, p .1 .1 .0 .2)))
+    (row-filled (a .degree) (a .nodes .now) (a .wrong .now) (a .flags .now) (a .marks .now) (a .row .now) (replicate 96 0) (c .before .before .before .before .before .before .before .before .before .before .before .before .before .gather .ensures .1) (c .before .before .before .before .before .before .before .before .before .before .reduce .ensures) (p .1 .1 .0 .1) (fits (c .before .before .before .before .before .before .before .before .before .before .before .before .before .before .before .before .before .before .before .before .before .before)) (field (a .degree) (p .0 .0)) (replicate 96 0) (c .before .before .before .before .before .before .evaluate .ensures) (omega (arith, p .1 .1 .0 .2)))
 
 pub fill-row-spec : {M : Type 1} → statement M
 fill-row-spec =

@@ -5,30 +5,34 @@ use mathlib.Core.List.{List}
 use Prim.Native.Nat.{ℕ, _+_, _-_, _≤_}
 use native.Mathlib.Omega.{arith}
 use lib.ListN.{length, getD, take, drop, drop-of-length-le}
-use lib.Seq.{length-take-le}
+use lib.Seq.{length-take-le, take-take}
 use Rattle.patch.specs.Parts.{lay}
 use Rattle.patch.proofs.Parts.{lay-none}
 use Rattle.field.specs.Symbols.{IsSymbol}
 use Rattle.field.specs.Arithmetic.{gf}
+use Rattle.rows.specs.Rows.{Inverses}
+use Rattle.rows.proofs.Sharing.{fewer-rounds, fewer-points}
+use Rattle.mark.specs.Code.{largest}
 use Rattle.mark.proofs.Parts.{all-take, all-drop}
+use Rattle.mark.proofs.Passed.{up-to-largest}
 use Rattle.ending.proofs.Model.{filledRows}
 use Rattle.joint.proofs.Places.{RowAt, next-row, row-room, row-size}
 use Rattle.joint.proofs.Reduced.{row-within}
 use Rattle.joint.proofs.Marks.{right-most, all-right}
-use Rattle.joint.proofs.Filled.{row-is, filled-more, flags-count, wrong-count, enough-right, right-points}
+use Rattle.joint.proofs.Filled.{row-is, filled-more, flags-count, wrong-count, enough-right, longest-right, right-points}
 use borrow.Author.Needs.{needs}
 use Rattle.joint.proofs.finish.fill_rows.Statement.{statement}
 use Rattle.joint.proofs.finish.fill_rows.Tie as tie
 
 abbrev Inv-loop : tie.InvT-loop
-Inv-loop table degree lengths points good wrong flags marks received s₀ at₀ l₀ s at l = RowAt (length points) lengths l at × (length s ≡ 384) × (lay at (filledRows (gf degree) flags points (drop l lengths) (drop at received)) s ≡ lay 0 (filledRows (gf degree) flags points lengths received) s₀)
+Inv-loop table degree lengths points good wrong flags marks ws received s₀ at₀ l₀ s at l = RowAt (length points) lengths l at × (length s ≡ 384) × (lay at (filledRows (gf degree) flags points (drop l lengths) (drop at received)) s ≡ lay 0 (filledRows (gf degree) flags points lengths received) s₀)
 
 abbrev μ-loop : tie.MeasureT-loop
-μ-loop table degree lengths points good wrong flags marks received s₀ at₀ l₀ s at l = length lengths - l
+μ-loop table degree lengths points good wrong flags marks ws received s₀ at₀ l₀ s at l = length lengths - l
 
 module _ (c : tie.In-loop Inv-loop μ-loop) where
   abbrev start : tie.Start Inv-loop μ-loop
-  start = c .before .before .before .before .before .before .before .before .before .before
+  start = c .before .before .before .before .before .before .before .before .before .before .before
 
   abbrev k : ℕ
   k = getD (start .args .lengths .now) (c .before .loop .l) 0
@@ -41,6 +45,17 @@ module _ (c : tie.In-loop Inv-loop μ-loop) where
       let p = start .pre .1 .1 in
       omega (arith, ap length (p .1 .0), enough-right (start .args .points .now) (start .args .marks .now) (start .args .flags .now) (p .0 .0) (p .0 .1) (start .args .lengths .now) (p .0 .2) (start .args .points .now) (omega arith) (c .before .loop .l) (c .loop-test .taken))
 
+  -- the inverses of the longest row's rounds serve every row
+  lent : {m : ℕ} → m ≡ k → Inverses (start .args .degree) (take m (start .args .good .now)) m (start .args .ws .now)
+  lent {m} e =
+      let xs = start .args .good .now in
+      let most = largest (start .args .lengths .now) in
+      let few : k ≤ most = up-to-largest (start .args .lengths .now) (c .before .loop .l) (c .loop-test .taken) in
+      let p = start .pre .1 .1 in
+      let long : most ≤ length xs = longest-right (start .args .points .now) (start .args .marks .now) (start .args .flags .now) (p .0 .0) (p .0 .1) (start .args .lengths .now) (p .0 .2) (p .1 .0) in
+      let size : length (take most xs) ≡ most = length-take-le most xs long in
+      rw e (rw (take-take k most xs few) at (fewer-rounds _ _ (fewer-points _ _ (start .pre .1 .1 .1 .2) {m = k} (omega arith)) few))
+
 loop-holds : tie.Need-loop-holds Inv-loop μ-loop
 loop-holds c = search needs
 
@@ -51,7 +66,7 @@ wide-requires : tie.Need-wide-requires Inv-loop μ-loop
 wide-requires c κs = search needs
 
 slice-aggregate-fill-row : tie.Need-slice-aggregate-fill-row Inv-loop μ-loop
-slice-aggregate-fill-row c = sym (length-take-le _ (c .before .before .before .before .before .before .before .before .before .before .before .before .before .args .good .now) (omega (arith, enough (c .before .before .before), c .before .wide .ensures)))
+slice-aggregate-fill-row c = sym (length-take-le _ (c .before .before .before .before .before .before .before .before .before .before .before .before .before .before .args .good .now) (omega (arith, enough (c .before .before .before), c .before .wide .ensures)))
 
 add-fill-row : tie.Need-add-fill-row Inv-loop μ-loop
 add-fill-row c = search needs
@@ -63,7 +78,7 @@ part-fill-row-start : tie.Need-part-fill-row-start Inv-loop μ-loop
 part-fill-row-start c = search needs
 
 part-fill-row-end : tie.Need-part-fill-row-end Inv-loop μ-loop
-part-fill-row-end c = omega (arith, row-room _ _ (c .before .before .before .before .loop .inv .0) (c .before .before .before .loop-test .taken), c .before .before .before .before .before .before .before .before .before .before .before .before .before .pre .1 .0 .0 .count)
+part-fill-row-end c = omega (arith, row-room _ _ (c .before .before .before .before .loop .inv .0) (c .before .before .before .loop-test .taken), c .before .before .before .before .before .before .before .before .before .before .before .before .before .before .pre .1 .0 .0 .count)
 
 fill-row-requires : tie.Need-fill-row-requires Inv-loop μ-loop
 fill-row-requires c κs = let turn = c .before .before .before .before .before .before .loop in
@@ -99,6 +114,7 @@ fill-row-requires c κs = let turn = c .before .before .before .before .before .
           (
             rw wrong (wrong-count (a .points .now) (a .marks .now) (a .flags .now) (p .1 .1 .0 .0) (p .1 .1 .0 .1)),
             omega (arith, row-room n (a .lengths .now) (turn .inv .0) (c .before .before .before .before .before .loop-test .taken), p .0 .0 .cells, turn .inv .1),
+            rw size (lent (c .before .before .before .before .before) (c .before .before .before .wide .ensures)),
           ),
         ),
       ),
@@ -138,7 +154,7 @@ same-length c = search needs
 returns : tie.Need-returns Inv-loop μ-loop
 unfolding filledRows
 returns c = let turn = c .before .loop in
-    let none = drop-of-length-le (c .before .before .before .before .before .before .before .before .before .before .args .lengths .now) (c .loop-test .left) in
+    let none = drop-of-length-le (c .before .before .before .before .before .before .before .before .before .before .before .args .lengths .now) (c .loop-test .left) in
     sym (lay-none (turn .at) (turn .s)) ∙ rw none at (turn .inv .2)
 
 pub fill-rows-spec : {M : Type 1} → statement M

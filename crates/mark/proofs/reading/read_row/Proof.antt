@@ -25,15 +25,18 @@ slice-aggregate-reduce c = search needs
 
 reduce-requires : tie.Need-reduce-requires
 reduce-requires c κs =
-    let start = c .before .before .before .before .before .before .before in
+    let start = c .before .before .before .before .before .before .before .before in
     let long : length (c .before .before .store .last .1 .0) ≡ 96 = c .before .before .store .kept .1 .0 in (
       start .pre .0,
       (
         (start .pre .1 .0 .0, start .pre .1 .0 .1, omega (arith, start .pre .1 .0 .1)),
-        symbols-lay (start .args .degree) 0 (start .args .row .now) (replicate 96 0) (c .before .before .store .ensures)
-            (start .pre .1 .1 .0)
-            (omega (arith, start .pre .1 .0 .1))
-            (start .pre .1 .1 .1),
+        (
+          symbols-lay (start .args .degree) 0 (start .args .row .now) (replicate 96 0) (c .before .before .store .ensures)
+              (start .pre .1 .1 .0)
+              (omega (arith, start .pre .1 .0 .1))
+              (start .pre .1 .1 .1),
+          start .pre .1 .1 .2,
+        ),
       ),
     )
 
@@ -45,8 +48,8 @@ slice-aggregate-coefficients c = sym (length-take-le _ _ (array-share-prefix-hel
 
 coefficients-requires : tie.Need-coefficients-requires
 coefficients-requires c κs =
-    let start = c .before .before .before .before .before .before .before .before .before .before .before in
-    let size : length (take (start .args .k) (c .before .before .before .reduce .last .1 .1 .1 .1 .0)) ≡ start .args .k =
+    let start = c .before .before .before .before .before .before .before .before .before .before .before .before in
+    let size : length (take (start .args .k) (c .before .before .before .reduce .last .1 .1 .1 .1 .1 .0)) ≡ start .args .k =
     length-take-le _ _ (array-share-prefix-held (c .before .before)) in (
       (start .pre .0 .0, start .pre .0 .1, start .pre .0 .2 .symbols),
       (omega (arith, start .pre .1 .0), omega (arith, start .pre .1 .0), omega (arith, start .pre .1 .0)),
@@ -69,7 +72,7 @@ same-length c = search needs
 
 returns : tie.Need-returns
 returns c =
-    let start = c .before .before .before .before .before .before .before .before .before .before .before .before .before .before .before .before .before in
+    let start = c .before .before .before .before .before .before .before .before .before .before .before .before .before .before .before .before .before .before in
     let d = start .args .degree in
     let 𝓕 = field d (start .pre .0 .0) in
     let p = start .pre .1 in

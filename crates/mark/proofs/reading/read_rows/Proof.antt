@@ -14,10 +14,11 @@ use Rattle.field.specs.Arithmetic.{gf}
 use Rattle.field.proofs.Instance.{field}
 use Rattle.poly.specs.Poly.{Zero}
 use Rattle.poly.proofs.Forms.{reduce, fromNewton}
+use Rattle.rows.proofs.Sharing.{fewer-rounds}
 use Rattle.mark.specs.Code.{Code, codeOf}
 use Rattle.mark.proofs.Parts.{all-take, all-drop}
 use Rattle.mark.proofs.Proper.{Proper}
-use Rattle.mark.proofs.Passed.{Counts, counts-of}
+use Rattle.mark.proofs.Passed.{Counts, counts-of, up-to-largest}
 use Rattle.mark.proofs.Messages.{messageRows, ReducedRows, messageOf, Reduced, array-message, its-message, code-array-exactly}
 use Rattle.mark.proofs.Rows.{Before, Place, first-place, next-place, bounds, message-more, reduced-more}
 use borrow.Author.Tests.{not-true, not-false}
@@ -26,14 +27,14 @@ use Rattle.mark.proofs.reading.read_rows.Statement.{statement}
 use Rattle.mark.proofs.reading.read_rows.Tie as tie
 
 abbrev Inv-loop : tie.InvT-loop
-Inv-loop table degree lengths points array s₀ from₀ at₀ l₀ s from at l =
+Inv-loop table degree lengths points ws array s₀ from₀ at₀ l₀ s from at l =
     Before (codeOf degree points lengths) l at from
     × (length s ≡ length s₀)
     × (lay at (messageRows (gf degree) points (drop l lengths) (drop from array)) s ≡ lay 0 (messageRows (gf degree) points lengths array) s₀)
     × (ReducedRows (gf degree) points (drop l lengths) (drop from array) ↔ ReducedRows (gf degree) points lengths array)
 
 abbrev μ-loop : tie.MeasureT-loop
-μ-loop table degree lengths points array s₀ from₀ at₀ l₀ s from at l = length lengths - l
+μ-loop table degree lengths points ws array s₀ from₀ at₀ l₀ s from at l = length lengths - l
 
 abbrev code : tie.Start Inv-loop μ-loop → Code
 code s = codeOf (s .args .degree) (s .args .points .now) (s .args .lengths .now)
@@ -50,7 +51,7 @@ proper c = record {
 }
 
 abbrev entry : tie.After-wide Inv-loop μ-loop → tie.Start Inv-loop μ-loop
-entry c = c .before .before .before .before .before .before .before .before
+entry c = c .before .before .before .before .before .before .before .before .before
 
 -- the row of a turn, and its places
 turn : (c : tie.After-wide Inv-loop μ-loop)
@@ -75,7 +76,7 @@ said : (c : tie.After-read-row Inv-loop μ-loop)
     let given = entry here .args in
     let own = here .before .before .before .loop in
     ((c .read-row .result ≡ true) ↔ Zero (gf (given .degree)) (drop (here .wide .result) (reducedOf here)))
-    × (c .read-row .last .1 .1 .1 .1 .1 .0
+    × (c .read-row .last .1 .1 .1 .1 .1 .1 .0
     ≡ lay (own .at) (fromNewton (gf (given .degree)) (here .wide .result) (given .points .now) (reducedOf here)) (own .s))
 said c =
     let here = c .before .before .before in
@@ -85,7 +86,7 @@ said c =
     rw e at (c .read-row .ensures)
 
 loop-holds : tie.Need-loop-holds Inv-loop μ-loop
-loop-holds c = (first-place (code (c .before .before .before .before)), refl, refl, (λ z. z, λ z. z))
+loop-holds c = (first-place (code (c .before .before .before .before .before)), refl, refl, (λ z. z, λ z. z))
 
 shared-slice-read-wide : tie.Need-shared-slice-read-wide Inv-loop μ-loop
 shared-slice-read-wide c = search needs
@@ -122,6 +123,7 @@ read-row-requires c κs =
         (
           length-take-le n (drop q a) (omega (arith, length-drop q a, start .pre .1 .0 .1 .count)),
           all-take _ n (drop q a) (all-drop _ q a (start .pre .1 .0 .1 .symbols)),
+          rw (here .count) (fewer-rounds _ _ (start .pre .1 .1 .2) (up-to-largest (start .args .lengths .now) (own .l) (here .here))),
         ),
       ),
     )
@@ -161,7 +163,7 @@ loop-again c =
     let a = start .args .array .now in
     let rest = reduced-more here a in (
       next-place here,
-      c .before .before .before .read-row .kept .1 .1 .1 .1 .1 .0 ∙ own .inv .1,
+      c .before .before .before .read-row .kept .1 .1 .1 .1 .1 .1 .0 ∙ own .inv .1,
       message-more here (proper start) a (start .pre .1 .0 .1 .count) (own .s)
           (omega (arith, bounds here .coefficients, own .inv .1, start .pre .1 .1 .1))
           (row .1)
@@ -178,7 +180,7 @@ same-length-2 c = search needs
 returns-2 : tie.Need-returns-2 Inv-loop μ-loop
 unfolding messageRows
 returns-2 c =
-    let start = c .before .before .before .before .before .before in
+    let start = c .before .before .before .before .before .before .before in
     let a = start .args .array .now in
     let end = c .before .loop .inv in
     let arr = start .pre .1 .0 .1 in

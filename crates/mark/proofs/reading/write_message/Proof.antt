@@ -23,15 +23,15 @@ passed : (c : tie.Start) → PassedReading (code c) (c .args .array .now) (c .ar
 passed c = reading (code c) (c .args .array .now) (c .args .message .now) (c .pre)
 
 -- what was said of the array, at the caller's points
-said : (c : tie.After-read-rows)
+said : (c : tie.After-read-array)
     → let start = c .before .before .before .before .before .before .before .before .before .before .before .before in
     let a = start .args .array .now in
-    (c .read-rows .result ≡ true
-    → (m : List ℕ) × IsMessage (code start) m × (encoded (code start) m ≡ a) × (c .read-rows .last .1 .1 .1 .1 .1 .0 ≡ lay 0 m (replicate 384 0)))
-    × (c .read-rows .result ≡ false → CodeArray (code start) a → ⊥)
+    (c .read-array .result ≡ true
+    → (m : List ℕ) × IsMessage (code start) m × (encoded (code start) m ≡ a) × (c .read-array .last .1 .1 .1 .1 .1 .0 ≡ lay 0 m (replicate 384 0)))
+    × (c .read-array .result ≡ false → CodeArray (code start) a → ⊥)
 said c =
     let start = c .before .before .before .before .before .before .before .before .before .before .before .before in
-    rw (copied (start .args .points .now) (replicate 96 0) (c .before .before .before .before .before .copy .ensures .1)) at (c .read-rows .ensures)
+    rw (copied (start .args .points .now) (replicate 96 0) (c .before .before .before .before .before .copy .ensures .1)) at (c .read-array .ensures)
 
 lend-requires : tie.Need-lend-requires
 lend-requires c κs = passed (c .before .before .before .before) .counts .degree
@@ -47,14 +47,14 @@ array-share-prefix-held c =
     let ok = passed (c .before .before .before .before .before .before .before .before .before) in
     omega (arith, c .before .before .copy .kept .1 .0, ok .counts .most-columns)
 
-slice-aggregate-read-rows : tie.Need-slice-aggregate-read-rows
-slice-aggregate-read-rows c = sym (length-take-le _ _ (array-share-prefix-held (c .before)))
+slice-aggregate-read-array : tie.Need-slice-aggregate-read-array
+slice-aggregate-read-array c = sym (length-take-le _ _ (array-share-prefix-held (c .before)))
 
-slice-aggregate-read-rows-2 : tie.Need-slice-aggregate-read-rows-2
-slice-aggregate-read-rows-2 c = search needs
+slice-aggregate-read-array-2 : tie.Need-slice-aggregate-read-array-2
+slice-aggregate-read-array-2 c = search needs
 
-read-rows-requires : tie.Need-read-rows-requires
-read-rows-requires c κs =
+read-array-requires : tie.Need-read-array-requires
+read-array-requires c κs =
     let start = c .before .before .before .before .before .before .before .before .before .before .before in
     let ok = passed start in
     rw (copied (start .args .points .now) (replicate 96 0) (c .before .before .before .before .copy .ensures .1)) (
@@ -68,16 +68,16 @@ read-rows-requires c κs =
 array-share-prefix-made : tie.Need-array-share-prefix-made
 array-share-prefix-made c =
     let ok = passed (c .before .before .before .before .before .before .before .before .before .before .before .before .before .before) in
-    omega (arith, c .before .before .read-rows .kept .1 .1 .1 .1 .1 .0, ok .message, ok .counts .fits, ok .counts .cells)
+    omega (arith, c .before .before .read-array .kept .1 .1 .1 .1 .1 .0, ok .message, ok .counts .fits, ok .counts .cells)
 
 slice-aggregate-copy-2 : tie.Need-slice-aggregate-copy-2
 slice-aggregate-copy-2 c =
-    sym (length-take-le _ (c .before .before .before .read-rows .last .1 .1 .1 .1 .1 .0) (array-share-prefix-made (c .before)))
+    sym (length-take-le _ (c .before .before .before .read-array .last .1 .1 .1 .1 .1 .0) (array-share-prefix-made (c .before)))
 
 copy-requires-2 : tie.Need-copy-requires-2
 copy-requires-2 c κs =
     let start = c .before .before .before .before .before .before .before .before .before .before .before .before .before .before .before .before in
-    omega (arith, length-take (length (start .args .message .now)) (c .before .before .before .before .read-rows .last .1 .1 .1 .1 .1 .0))
+    omega (arith, length-take (length (start .args .message .now)) (c .before .before .before .before .read-array .last .1 .1 .1 .1 .1 .0))
 
 same-length : tie.Need-same-length
 same-length c = search needs
@@ -106,9 +106,9 @@ write-message-spec =
     slice-aggregate-copy
     copy-requires
     array-share-prefix-held
-    slice-aggregate-read-rows
-    slice-aggregate-read-rows-2
-    read-rows-requires
+    slice-aggregate-read-array
+    slice-aggregate-read-array-2
+    read-array-requires
     array-share-prefix-made
     slice-aggregate-copy-2
     copy-requires-2
