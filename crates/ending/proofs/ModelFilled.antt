@@ -5,7 +5,6 @@
 --   filled-code    all rows
 -- Assumes nothing.
 use mathlib.Core.Path.{_≡_, refl, sym, ap, ap₂, _∙_}
-use mathlib.Core.Logic.{inl, inr}
 use mathlib.Core.Bool.{Bool, true, false}
 use mathlib.Core.List.{List, [], _∷_, _++_}
 use Prim.Native.Nat.{ℕ, zero, suc, _+_, _*_, _≤_, _<_}
@@ -17,7 +16,7 @@ use Rattle.field.proofs.Laws.{Field}
 use Rattle.poly.specs.Poly.{All, Poly, value, valuesAt}
 use Rattle.poly.proofs.Forms.{reduce, fromNewton, newtonValue}
 use Rattle.poly.proofs.Newton.{newton-value, newton-unique}
-use Rattle.poly.proofs.Roots.{Mem, Distinct, distinct-take}
+use Rattle.poly.proofs.Roots.{Distinct, distinct-take}
 use Rattle.mark.specs.Code.{Code, rows, columns, total, IsMessage, IsArray, encodedRows, encoded}
 use Rattle.mark.proofs.Parts.{all-take, all-drop, poly-take, row-length, rest-length}
 use Rattle.mark.proofs.Proper.{Proper}

@@ -8,7 +8,7 @@
 -- Assumes nothing.
 use mathlib.Core.Path.{_≡_, refl, sym, ap, ap₂, _∙_}
 use mathlib.Core.Logic.{⊎-elim}
-use mathlib.Core.List.{List, [], _∷_}
+use mathlib.Core.List.{List, _∷_}
 use Prim.Native.Nat.{ℕ, zero, suc, _+_, _-_, _*_, _/_, _%_, _^_, _≤_, _<_}
 use native.Mathlib.Nat.{mod-eq-of-lt, div-eq-of-lt, div-eq-of-lt-le, mul-div-cancel, lt-of-lt-of-le, one-mul, zero-mul, mul-one, mul-assoc, mul-comm, pow-suc, add-zero, zero-add, add-suc, suc-add}
 use native.Mathlib.Numerals.{add-one}

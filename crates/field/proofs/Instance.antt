@@ -7,14 +7,14 @@
 use mathlib.Core.Path.{_≡_}
 use mathlib.Core.Logic.{_⊎_, inl, inr}
 use mathlib.Core.Bool.{false}
-use Prim.Native.Nat.{ℕ, _^_, _<_}
+use Prim.Native.Nat.{ℕ, _^_}
 use native.Mathlib.Decide.{ℕ-discrete}
 use native.Mathlib.Omega.{arith}
 use lib.Dec.{ltb→lt}
 use lib.Pow.{pow-pos}
 use Rattle.refusal.specs.Refusal.{badDegree}
 use Rattle.refusal.proofs.Laws.{degrees}
-use Rattle.field.specs.Symbols.{plus, modulus, timesX, timesLow, times, over}
+use Rattle.field.specs.Symbols.{plus, modulus, timesX, timesLow, times}
 use Rattle.field.specs.Tables.{power, powers, placeOf}
 use Rattle.field.specs.Arithmetic.{gf}
 use Rattle.field.proofs.Laws.{Field}

@@ -13,7 +13,7 @@ use Rattle.refusal.specs.Refusal.{Check, _when_, first, badDegree, outsideField
 use Rattle.refusal.proofs.Laws.{inside}
 use Rattle.field.specs.declared.Value.{Value}
 use Rattle.field.specs.declared.Value.the-variants.{Symbol, Refused}
-use Rattle.field.specs.Answers.{checks, meaning, answer, Answers}
+use Rattle.field.specs.Answers.{checks, meaning, Answers}
 
 same-meaning : (v w : Value) → meaning v ≡ meaning w → v ≡ w
 same-meaning (Symbol s) (Symbol t) e = let f : s ∷ [] ≡ t ∷ [] = ap (λ (p : ℕ × List ℕ). p .1) e in cc

@@ -6,8 +6,8 @@
 --   timesX d c       x times c
 --   times d a b      the product
 --   over d a b       the quotient
-use Prim.Native.Nat.{ℕ, zero, suc, _+_, _-_, _*_, _/_, _%_, _^_, _<_}
-use mathlib.Core.Bool.{Bool, cond}
+use Prim.Native.Nat.{ℕ, zero, suc, _-_, _*_, _/_, _%_, _^_, _<_}
+use mathlib.Core.Bool.{cond}
 use lib.Bits.{bitXor}
 use lib.Dec.{eqb}
 

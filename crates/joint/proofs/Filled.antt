@@ -15,7 +15,7 @@ use native.Mathlib.Omega.{arith}
 use lib.ListN.{length, getD, take, drop, length-append, length-map}
 use lib.Seq.{drop-drop, length-take-le, take-take}
 use Rattle.patch.specs.Parts.{part, lay}
-use Rattle.patch.proofs.Parts.{length-lay}
+use Rattle.patch.proofs.Parts.{length-lay, behind}
 use Rattle.field.specs.Symbols.{IsSymbol}
 use Rattle.field.specs.Arithmetic.{gf}
 use Rattle.field.proofs.Laws.{Field}
@@ -27,7 +27,7 @@ use Rattle.mark.proofs.Parts.{all-take, row-length, rest-length}
 use Rattle.mark.proofs.Limits.{Room, room-largest}
 use Rattle.ending.proofs.Model.{right, filledRow, filledIn, filledRows}
 use Rattle.joint.specs.Working.{zerosIn, put, refilled}
-use Rattle.joint.proofs.Places.{RowAt, next, behind, front, row-left, row-size}
+use Rattle.joint.proofs.Places.{RowAt, next, front, row-left, row-size}
 use Rattle.joint.proofs.Marks.{zeros-count, right-count, right-others, all-right, distinct-right, distinct-take}
 
 module _ (d : ℕ) where

@@ -1,7 +1,7 @@
 -- Rows laid into longer lists, and read back.
 --
 --   front, tail          the front of what a row was laid over; the row from entry k on
---   copied, copied-front a list copied over one of its length; over the front of a longer one
+--   copied               a list copied over one of its length
 --   RowAt n ks l from    row l, of rows with the lengths ks and n symbols each, begins at symbol from of the array
 --   next-row             the row behind a row
 --   row-room, row-left, row-size    a row has its place; what is left from it on; how long it is
@@ -11,12 +11,11 @@ use mathlib.Core.List.{List, _∷_, _++_, append-nil}
 use Prim.Native.Nat.{ℕ, _+_, _-_, _*_, _≤_, _<_}
 use native.Mathlib.Nat.{suc-mul}
 use native.Mathlib.Numerals.{add-one}
-use native.Mathlib.Decide.{decLt}
 use native.Mathlib.Omega.{arith}
-use lib.ListN.{length, getD, take, drop, length-append, length-drop, drop-of-length-le, List·getD-append}
-use lib.Seq.{drop-cons, getD-append-add, length-take-le, take-add, take-append-seam, take-length, drop-at}
+use lib.ListN.{length, getD, take, drop, length-drop, drop-of-length-le}
+use lib.Seq.{drop-cons, length-take-le, take-add, take-length, drop-at}
 use Rattle.patch.specs.Parts.{part, lay}
-use Rattle.patch.proofs.Parts.{length-lay, lay-inside, lay-below, lay-above, is-lay, part-lay}
+use Rattle.patch.proofs.Parts.{length-lay, part-lay}
 
 module _ (v l : List ℕ) {n : ℕ} {s : List ℕ} (is : s ≡ lay 0 v l) (size : length v ≡ n) (fits : n ≤ length l) where
   pub front : take n s ≡ v
@@ -34,9 +33,6 @@ pub copied : (v l : List ℕ) {s : List ℕ} → length v ≡ length l → s ≡
 copied v l e is =
     let long : length l ≤ length v = omega arith in
     is ∙ rw (take-length, drop-of-length-le l long, append-nil)
-
-pub copied-front : (v l : List ℕ) {s : List ℕ} → s ≡ take (length v) v ++ drop (length v) l → take (length v) s ≡ v
-copied-front v l is = rw (is, take-length) (take-append-seam v (drop (length v) l))
 
 -- of the lengths from l on, the first and the others
 pub next : (ks : List ℕ) (l : ℕ) → l < length ks → drop l ks ≡ getD ks l 0 ∷ drop (l + 1) ks

@@ -19,7 +19,7 @@ use lib.Seq.{drop-drop, ext-getD, length-take-le}
 use Rattle.patch.specs.Patch.{patch}
 use Rattle.patch.specs.Parts.{part, lay}
 use Rattle.patch.proofs.Laws.{length-patch, front-at}
-use Rattle.patch.proofs.Parts.{length-lay}
+use Rattle.patch.proofs.Parts.{length-lay, behind}
 use Rattle.field.specs.Symbols.{IsSymbol}
 use Rattle.field.specs.Arithmetic.{gf}
 use Rattle.field.proofs.Laws.{Field}
@@ -36,7 +36,7 @@ use Rattle.basis.proofs.Lines.{Row, Condition, condition, conditions}
 use Rattle.basis.proofs.Lists.{all-left, all-right}
 use Rattle.ending.proofs.Model.{reducedRows}
 use Rattle.joint.specs.Working.{reducedPoints, reducedValues}
-use Rattle.joint.proofs.Places.{RowAt, next, behind, front, tail, row-left, row-size}
+use Rattle.joint.proofs.Places.{RowAt, next, front, tail, row-left, row-size}
 
 module _ (xs : List ℕ) where
   few-points : (ks : List ℕ) → Within 1 (length xs) ks → length xs ≤ 96 → length (reducedPoints xs ks) ≤ 95 * length ks

@@ -13,12 +13,10 @@
 -- Assumes nothing.
 use mathlib.Core.Path.{_≡_, refl, sym, ap, _∙_}
 use mathlib.Core.Logic.{_↔_, _⊎_, inl, inr}
-use mathlib.Core.Bool.{false, not}
 use mathlib.Core.List.{List, [], _∷_}
 use Prim.Native.Nat.{ℕ, zero, suc, _*_}
 use native.Mathlib.Omega.{arith}
 use lib.ListN.{length, getD}
-use borrow.Author.Tests.{eq-eqb}
 use Rattle.refusal.specs.Refusal.{first, badDegree, outside, someOutside}
 use Rattle.field.specs.Symbols.{plus, modulus, timesX, timesLow, times}
 use Rattle.poly.specs.Poly.{value, valuesAt}
@@ -28,17 +26,17 @@ use Rattle.mark.specs.Promises.{Left, EncodesBy, Encodes, ReadsBy, Reads
 use Rattle.mark.specs.declared.Outcome.{Outcome}
 use Rattle.mark.specs.declared.Outcome.the-variants.{Done, Refused}
 use Rattle.mark.proofs.Proper.{Proper, neither, points-test, symbols-test}
-use Rattle.mark.proofs.Passed.{passed-on, front-passed, encoding, reading}
+use Rattle.mark.proofs.Passed.{passed-on, front-passed, is-right, encoding, reading}
 use Rattle.mark.proofs.Messages.{encoded-array, one-message}
 
-outcome-of : {x y : Left} → x ≡ y → x .outcome ≡ y .outcome
+pub outcome-of : {x y : Left} → x ≡ y → x .outcome ≡ y .outcome
 outcome-of e = ap (λ (x : Left). x .outcome) e
 
-buffer-of : {x y : Left} → x ≡ y → x .buffer ≡ y .buffer
+pub buffer-of : {x y : Left} → x ≡ y → x .buffer ≡ y .buffer
 buffer-of e = ap (λ (x : Left). x .buffer) e
 
 -- done is not refused
-apart : {P : Type 0} (o : Outcome) (k : ℕ) → o ≡ Done → o ≡ Refused k → P
+pub apart : {P : Type 0} (o : Outcome) (k : ℕ) → o ≡ Done → o ≡ Refused k → P
 apart o k p q = let z : _≡_ {A = ℕ} 0 1 = cc in absurd (omega arith)
 
 module _ (c : Code) (m lent : List ℕ) where
@@ -117,16 +115,13 @@ module _ (c : Code) (a lent : List ℕ) where
         go zero (inr (n, p)) d = let q : x .outcome ≡ Refused 9 = outcome-of p in (inr (cc, n), buffer-of p)
         go (suc j) p d = let q : x .outcome ≡ Refused (suc j) = outcome-of p in (inl cc, buffer-of p)
 
-right-length : (n : ℕ) (l : List ℕ) → length l ≡ n → wrongLength n l ≡ false
-right-length n l e = ap not (eq-eqb (length l) n e)
-
 -- an array of the code passes the checks of reading, with a buffer of the right length
 array-passes : (c : Code) (a lent : List ℕ) → Proper c → 0 ≡ first (codeChecks c) → IsArray c a → length lent ≡ total (c .lengths)
     → first (readChecks c a lent) ≡ 0
 unfolding first
 array-passes c a lent p z i e =
     let five = neither (wrongLength (total (c .lengths)) lent) (wrongLength (rows c * columns c) a) .1
-    (right-length _ lent e, right-length _ a (i .count)) in
+    (is-right _ lent e, is-right _ a (i .count)) in
     let six = points-test (c .degree) (c .points) .1 (p .symbols, p .distinct) in
     let seven = symbols-test (c .degree) a .1 (i .symbols) in
     passed-on (codeChecks c) (bufferChecks c lent a a) tt z refl ∙ simp (five, six, seven)

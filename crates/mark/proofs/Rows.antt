@@ -9,18 +9,17 @@
 --   encoded-more        a row's values, laid before the rows that are left
 --   message-more, reduced-more    the same of the message that is read, and of the reduced values
 -- Assumes nothing.
-use mathlib.Core.Path.{_≡_, sym, ap, _∙_}
+use mathlib.Core.Path.{_≡_, ap, _∙_}
 use mathlib.Core.Logic.{_↔_}
 use mathlib.Core.List.{List, _∷_, _++_, append-nil}
 use Prim.Native.Nat.{ℕ, _+_, _-_, _*_, _≤_, _<_}
 use native.Mathlib.Nat.{suc-mul}
 use native.Mathlib.Numerals.{add-one}
-use native.Mathlib.Decide.{decLt}
 use native.Mathlib.Omega.{arith}
-use lib.ListN.{length, getD, take, drop, length-append, length-drop, List·getD-append}
-use lib.Seq.{drop-cons, drop-drop, getD-append-add, length-take-le, take-append-seam, take-length, drop-length}
+use lib.ListN.{length, getD, take, drop, length-drop}
+use lib.Seq.{drop-cons, drop-drop, length-take-le, take-append-seam, take-length, drop-length}
 use Rattle.patch.specs.Parts.{part, lay}
-use Rattle.patch.proofs.Parts.{length-lay, lay-inside, lay-below, lay-above, is-lay, part-lay}
+use Rattle.patch.proofs.Parts.{part-lay, behind}
 use Rattle.refusal.proofs.Laws.{each-within}
 use Rattle.field.specs.Arithmetic.{gf}
 use Rattle.field.proofs.Laws.{Field}

@@ -173,4 +173,7 @@ lay-append at v w l fits =
         ∙ sym (getD-append-add v w (k - length v) 0)
         ∙ ap (λ (i : ℕ). getD (v ++ w) i 0) e′
 
-
+-- what is laid at a place, and then the rest behind it
+pub behind : (at : ℕ) (v w l : List ℕ) {n : ℕ} {s : List ℕ} → length v ≡ n → s ≡ lay at v l → at + length (v ++ w) ≤ length l
+    → lay (at + n) w s ≡ lay at (v ++ w) l
+behind at v w l e is fits = rw (← e, is) (lay-append at v w l fits)

@@ -9,19 +9,19 @@
 -- Assumes nothing.
 use mathlib.Core.Path.{_≡_, refl, sym, ap, _∙_, subst}
 use mathlib.Core.List.{List, [], _∷_, _++_, append-assoc}
-use Prim.Native.Nat.{ℕ, zero, suc, _+_, _-_, _*_, _^_, _≤_, _<_}
+use Prim.Native.Nat.{ℕ, zero, suc, _+_, _-_, _*_, _≤_, _<_}
 use native.Mathlib.Numerals.{add-one}
 use native.Mathlib.Omega.{arith}
 use lib.ListN.{length, getD, drop, length-append, drop-of-length-le}
 use lib.Seq.{drop-cons}
 use Rattle.patch.specs.Parts.{lay}
-use Rattle.patch.proofs.Parts.{length-lay, lay-none}
+use Rattle.patch.proofs.Parts.{length-lay, lay-none, lay-append}
 use Rattle.ending.specs.declared.Ending.{Ending}
 use Rattle.ending.specs.declared.Ending.the-variants.{Nothing}
 use Rattle.record.specs.Lines.{ascii, decimal, word, detail, wrongFrom, wrongColumns, commas, joined, lineOf}
 use Rattle.record.specs.Working.{Puts, followed, fieldsOf}
 use Rattle.record.proofs.Decimals.{decimal-short}
-use Rattle.record.proofs.Layouts.{lay-append, puts-then}
+use Rattle.record.proofs.Layouts.{puts-then}
 
 right-column : (i f : ℕ) (fs : List ℕ) → f ≡ 0 → wrongFrom i (f ∷ fs) ≡ wrongFrom (suc i) fs
 unfolding wrongFrom

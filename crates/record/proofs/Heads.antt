@@ -6,10 +6,10 @@
 --   in-range, rows-most, columns-most, cells-most, size-most    what a head in range says
 --   wants-mark, wants-no-more, wants-head, wants-head-alone, wants-all    how many bytes are wanted, case by case
 -- Assumes nothing.
-use mathlib.Core.Path.{_≡_, refl, sym, ap, _∙_}
-use mathlib.Core.Bool.{Bool, true, false, not, _&&_, _||_, and-true}
-use mathlib.Core.List.{List, [], _∷_, _++_}
-use Prim.Native.Nat.{ℕ, zero, suc, _+_, _-_, _*_, _≤_, _<_}
+use mathlib.Core.Path.{_≡_}
+use mathlib.Core.Bool.{true, false, not, and-true}
+use mathlib.Core.List.{List, [], _∷_}
+use Prim.Native.Nat.{ℕ, _-_, _*_, _≤_, _<_}
 use native.Mathlib.Nat.{mul-le-mul}
 use native.Mathlib.Omega.{arith}
 use lib.Dec.{eqb}
@@ -17,7 +17,7 @@ use lib.ListN.{length, getD}
 use borrow.Author.Tests.{lt-ltb, le-ltb, le-leb, lt-leb, eq-eqb, ne-eqb}
 use Rattle.refusal.specs.Refusal.{outside}
 use Rattle.refusal.proofs.Laws.{neither, within}
-use Rattle.record.specs.Records.{mark, begins, noMark, outOfRange, rowsIn, columnsIn, sizeIn, wanted}
+use Rattle.record.specs.Records.{begins, noMark, outOfRange, rowsIn, columnsIn, sizeIn, wanted}
 
 pub few-bytes : (b : List ℕ) → length b < 2 → noMark b ≡ false
 unfolding noMark

@@ -3,15 +3,13 @@
 --   puts-then     two texts put one behind the other are the two in one
 --   puts-text     so is a text that is laid
 -- Assumes nothing.
-use mathlib.Core.Path.{_≡_, refl, sym, ap, _∙_}
-use mathlib.Core.List.{List, [], _∷_, _++_}
-use Prim.Native.Nat.{ℕ, zero, suc, _+_, _-_, _≤_, _<_}
-use native.Mathlib.Decide.{decLt}
+use mathlib.Core.Path.{_≡_, _∙_}
+use mathlib.Core.List.{List, _++_}
+use Prim.Native.Nat.{ℕ, _+_, _-_, _≤_}
 use native.Mathlib.Omega.{arith}
-use lib.ListN.{length, getD, length-append, List·getD-append}
-use lib.Seq.{getD-append-add}
+use lib.ListN.{length, length-append}
 use Rattle.patch.specs.Parts.{lay}
-use Rattle.patch.proofs.Parts.{length-lay, lay-inside, lay-below, lay-above, is-lay}
+use Rattle.patch.proofs.Parts.{lay-append}
 use Rattle.record.specs.Working.{Puts}
 
 pub puts-then : (lent : List ℕ) (at : ℕ) (v w : List ℕ) {mid left : List ℕ} {e r : ℕ} → at + length (v ++ w) ≤ length lent

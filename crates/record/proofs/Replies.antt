@@ -4,17 +4,14 @@
 --   answers-stop    a reason to stop applies
 --   answers-next    none does, and the line was written
 -- Assumes nothing.
-use mathlib.Core.Path.{_≡_, refl, sym, ap, _∙_}
+use mathlib.Core.Path.{_≡_, refl, ap, _∙_}
 use mathlib.Core.List.{List, [], _∷_}
-use Prim.Native.Nat.{ℕ, zero, suc, _+_}
+use Prim.Native.Nat.{ℕ, zero, suc}
 use native.Mathlib.Nat.{zero-add}
 use native.Mathlib.Omega.{arith}
 use lib.ListN.{length}
-use Rattle.patch.specs.Parts.{lay}
-use Rattle.ending.specs.declared.Ending.the-variants.{Refused}
 use Rattle.joint.specs.Promises.{Given}
 use Rattle.record.specs.Records.{stopOf}
-use Rattle.record.specs.Lines.{lineOf}
 use Rattle.record.specs.Promises.{LineOf, recordIn, fresh, refusedLine, AnswersBy, Answers}
 use Rattle.record.specs.Working.{Puts}
 use Rattle.record.specs.declared.Reply.the-variants.{End, Last, Next}

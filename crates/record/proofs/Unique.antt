@@ -4,20 +4,19 @@
 --   unique           the number and the bytes that are left fix the reply and the buffer
 --   prints-unique    the input fixes the output
 -- Assumes nothing.
-use mathlib.Core.Path.{_≡_, refl, sym, ap, ap₂, _∙_}
+use mathlib.Core.Path.{_≡_, sym, ap, ap₂, _∙_}
 use mathlib.Core.List.{List, [], _∷_, _++_}
 use Prim.Native.Nat.{ℕ, zero, suc, _+_}
 use native.Mathlib.Omega.{arith}
-use lib.ListN.{length, drop}
+use lib.ListN.{length}
 use Rattle.patch.specs.Parts.{lay}
-use Rattle.ending.specs.declared.Ending.{Ending}
 use Rattle.joint.specs.Promises.{Given, Left, buffers, left}
 use Rattle.joint.proofs.Unique as joint
 use Rattle.record.specs.Records.{stopOf}
 use Rattle.record.specs.Lines.{lineOf}
 use Rattle.record.specs.Promises.{LineOf, recordIn, fresh, refusedLine, AnswersBy, Answers, Prints, ends, stops, goes}
 use Rattle.record.specs.declared.Reply.{Reply}
-use Rattle.record.specs.declared.Reply.the-variants.{End, Last, Next}
+use Rattle.record.specs.declared.Reply.the-variants.{Next}
 
 module _ (number : ℕ) where
   pub line-unique : (g : Given) (l l′ : List ℕ) → LineOf number g l → LineOf number g l′ → l ≡ l′

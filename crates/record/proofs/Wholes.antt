@@ -5,19 +5,18 @@
 --   partsRead     what a decoding is given where the parts are read with r rows and n columns
 --   parts-read    these are the record's
 -- Assumes nothing.
-use mathlib.Core.Path.{_≡_, refl, sym, ap, ap₂, _∙_}
-use mathlib.Core.Bool.{Bool, true, false, _||_}
-use mathlib.Core.List.{List, [], _∷_, _++_}
-use Prim.Native.Nat.{ℕ, zero, suc, _+_, _-_, _*_, _≤_, _<_}
+use mathlib.Core.Path.{_≡_, sym, _∙_}
+use mathlib.Core.Bool.{false}
+use mathlib.Core.List.{List}
+use Prim.Native.Nat.{ℕ, _+_, _-_, _*_, _≤_}
 use native.Mathlib.Omega.{arith}
 use lib.ListN.{length, getD, take, drop, replicate, length-replicate, getD-replicate}
 use lib.Seq.{length-take-le, getD-take, ext-getD}
 use borrow.Author.Tests.{ltb-false}
-use Rattle.refusal.specs.Refusal.{outside}
 use Rattle.refusal.proofs.Laws.{clear}
 use Rattle.mark.specs.Code.{codeOf}
 use Rattle.joint.specs.Promises.{Given, given, buffers}
-use Rattle.record.specs.Records.{outOfRange, rowsIn, columnsIn, lengthsIn, limitIn, pointsIn, symbolsIn, sizeIn, stopChecks, stopOf}
+use Rattle.record.specs.Records.{outOfRange, rowsIn, columnsIn, lengthsIn, limitIn, pointsIn, symbolsIn, sizeIn, stopOf}
 use Rattle.record.specs.Promises.{recordIn}
 use Rattle.record.proofs.Heads.{rows-in}
 

@@ -1,5 +1,4 @@
 // A line, written into a buffer field by field. Each function writes from a place on and answers the place behind.
-ghost use mathlib.Core.Path.{_≡_};
 ghost use mathlib.Core.List.{_∷_, _++_};
 ghost use Prim.Native.Nat.{_+_, _≤_};
 ghost use lib.ListN.{length};

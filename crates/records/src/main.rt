@@ -1,6 +1,5 @@
 // Decodes the records on standard input, and prints a line for each on standard output, as soon as its bytes have arrived. It
 // ends at the end of the input, after a line that stops the reading, and where a write fails.
-ghost use mathlib.Core.Path.{_≡_};
 ghost use Prim.Native.Nat.{_≤_};
 ghost use lib.ListN.{length};
 use libc::STDIN_FILENO;

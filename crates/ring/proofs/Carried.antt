@@ -18,14 +18,14 @@ use native.Mathlib.Numerals.{add-one}
 use native.Mathlib.Omega.{arith}
 use lib.ListN.{length, take, drop, length-append, length-take}
 use Rattle.patch.specs.Parts.{part, lay}
-use Rattle.patch.proofs.Parts.{lay-none, lay-end}
+use Rattle.patch.proofs.Parts.{lay-none, lay-end, lay-append}
 use Rattle.field.specs.Symbols.{IsSymbol}
 use Rattle.field.specs.Arithmetic.{gf}
 use Rattle.poly.specs.Poly.{All, valuesAt}
 use Rattle.poly.proofs.Forms.{reduce, fromNewton}
 use Rattle.poly.proofs.Values.{length-values}
 use Rattle.rows.specs.Rows.{Points}
-use Rattle.mark.proofs.Rows.{lay-append, lay-front}
+use Rattle.mark.proofs.Rows.{lay-front}
 use Rattle.ring.specs.Ring.{numbers, sector, IsRing, column, ringOf, ArrayOf}
 use Rattle.ring.specs.Checks.{badSize}
 use Rattle.ring.proofs.Numbers.{flat-more, flat-cong, all-flat, length-flat, part-flat, part-fits, turned, length-turned, part-turned}

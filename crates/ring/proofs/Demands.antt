@@ -42,6 +42,7 @@ use Rattle.mark.specs.Promises.{Left, done}
 use Rattle.mark.specs.declared.Outcome.{Outcome}
 use Rattle.mark.specs.declared.Outcome.the-variants.{Done}
 use Rattle.mark.specs.declared.Outcome.the-variants as Mark
+use Rattle.mark.proofs.Demand2.{outcome-of, buffer-of, apart}
 use Rattle.ending.specs.Endings.{Buffers, detailOf, Ends}
 use Rattle.ending.specs.declared.Ending.{Ending}
 use Rattle.ending.specs.declared.Ending.the-variants.{Refused, Corrected, Nothing, Several, Hollow}
@@ -57,16 +58,6 @@ use Rattle.ring.proofs.Sectors.{Nearest, Near, nearest-word, near-exact
 use Rattle.ring.proofs.Passed.{encoding, PassedDecoding, decoding, reads-on, to-decode}
 use Rattle.ring.proofs.Promised.{firstOf}
 use Rattle.ring.proofs.Unique.{reads-unique}
-
--- done is not refused
-apart : {P : Type 0} (o : Outcome) (k : ℕ) → o ≡ Done → o ≡ Mark.Refused k → P
-apart o k p q = let z : _≡_ {A = ℕ} 0 1 = cc in absurd (omega arith)
-
-outcome-of : {x y : Left} → x ≡ y → x .outcome ≡ y .outcome
-outcome-of e = ap (λ (x : Left). x .outcome) e
-
-buffer-of : {x y : Left} → x ≡ y → x .buffer ≡ y .buffer
-buffer-of e = ap (λ (x : Left). x .buffer) e
 
 module _ (q m : ℕ) (f lent : List ℕ) (left : Left) (h : Encodes q m f lent left) where
   pub encode-done : (left .outcome ≡ Done) ↔ (first (encodeChecks q m f lent) ≡ 0)

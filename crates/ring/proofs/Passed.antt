@@ -5,13 +5,13 @@
 --   reads-on         a ring passes the checks of reading
 --   to-encode, to-read, to-decode    then no check of the call on the array applies
 -- Assumes nothing.
-use mathlib.Core.Path.{_≡_, refl, sym, ap, _∙_}
-use mathlib.Core.Bool.{false, not}
+use mathlib.Core.Path.{_≡_, refl, sym, _∙_}
+use mathlib.Core.Bool.{false}
 use mathlib.Core.List.{List, _++_}
 use Prim.Native.Nat.{ℕ, _*_, _≤_}
 use lib.Dec.{ltb}
 use lib.ListN.{length}
-use borrow.Author.Tests.{eq-eqb, eqb-true, ltb-false, le-ltb, not-false}
+use borrow.Author.Tests.{ltb-false, le-ltb}
 use Rattle.refusal.specs.Refusal.{Check, first, outside}
 use Rattle.refusal.proofs.Laws.{miss, clear}
 use Rattle.field.specs.Symbols.{IsSymbol}
@@ -20,14 +20,11 @@ use Rattle.mark.specs.Code.{Code, rows, columns, total, IsMessage, jointLimit}
 use Rattle.mark.specs.Checks.{codeChecks, wrongLength, spaceBytes}
 use Rattle.mark.specs.Checks as Mark
 use Rattle.mark.proofs.Proper.{neither, symbols-test, lengths-test, message}
-use Rattle.mark.proofs.Passed.{Counts}
+use Rattle.mark.proofs.Passed.{right-length, is-right, Counts}
 use Rattle.ring.specs.Ring.{ringLengths, ringCode, IsRing}
 use Rattle.ring.specs.Checks.{badSize, badOrder, ringChecks, encodeChecks, readChecks, decodeChecks}
 use Rattle.ring.proofs.Numbers.{length-numbers}
 use Rattle.ring.proofs.Sizes.{tested, ring-cells, ring-counts}
-
-right-length : (n : ℕ) (l : List ℕ) → wrongLength n l ≡ false → length l ≡ n
-right-length n l e = eqb-true (length l) n (not-false _ e)
 
 pub record Passed (q m : ℕ) : Type 0 where
   pub size : badSize q ≡ false
@@ -93,9 +90,6 @@ decoding q m τ y w f s e =
       space = ltb-false (length s) spaceBytes (l₃ .1);
       limit = ltb-false (jointLimit (ringCode q m)) τ (clear 7 _ _ (p₇ .1) .0);
     }
-
-is-right : (n : ℕ) (l : List ℕ) → length l ≡ n → wrongLength n l ≡ false
-is-right n l e = ap not (eq-eqb (length l) n e)
 
 -- a ring passes the checks of reading, with a buffer of the right length
 pub reads-on : {q m : ℕ} → Passed q m → (f w : List ℕ) → IsRing q w → length f ≡ total (ringLengths q m) → first (readChecks q m w f) ≡ 0

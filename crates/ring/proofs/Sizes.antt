@@ -23,7 +23,7 @@ use borrow.Author.Tests.{ne-eqb}
 use Rattle.refusal.specs.Refusal.{badDegree, outsideField, someOutsideField, isIn, repeated, badPoints}
 use Rattle.refusal.proofs.Laws.{within}
 use Rattle.field.specs.Symbols.{plus, modulus, timesX, timesLow, times}
-use Rattle.field.proofs.Products.{allBelow, below}
+use Rattle.field.proofs.Products.{allBelow, below, both}
 use Rattle.field.proofs.Instance.{field}
 use Rattle.rows.specs.Rows.{Points}
 use Rattle.mark.proofs.Proper.{Within, Proper, points-test}
@@ -91,9 +91,6 @@ tested q h = go (sizes q h)
     go (inl e) = rw e tested-2
     go (inr e) = rw e tested-4
 
-split : (a b : Bool) → T (a && b) → T a × T b
-split true b t = (tt, t)
-
 passes : (b : Bool) → T (not b) → b ≡ false
 passes false t = refl
 
@@ -104,7 +101,7 @@ pub record Sector (q x : ℕ) : Type 0 where
 
 pub sectors : (q : ℕ) → badSize q ≡ false → (x : ℕ) → x < q * q → Sector q x
 sectors q h x k =
-    let t = split (eqb (length (sector q x)) q) (not (badPoints q (sector q x))) (below (q * q) (goodSector q) (tested q h .sectors) x k) in
+    let t = both (eqb (length (sector q x)) q) (not (badPoints q (sector q x))) (below (q * q) (goodSector q) (tested q h .sectors) x k) in
     let p = points-test q (sector q x) .0 (passes (badPoints q (sector q x)) (t .1)) in
     record { size = eqb→eq (length (sector q x)) q (t .0); points = record { symbols = p .0; distinct = p .1 } }
 

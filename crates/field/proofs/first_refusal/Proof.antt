@@ -1,6 +1,6 @@
 -- `field::first_refusal` is the number of the first check that applies.
 -- Assumes nothing.
-use mathlib.Core.Path.{_≡_, sym, _∙_}
+use mathlib.Core.Path.{sym, _∙_}
 use Rattle.refusal.specs.Refusal.{first}
 use borrow.Author.Needs.{needs}
 use Rattle.field.proofs.first_refusal.Statement.{statement}

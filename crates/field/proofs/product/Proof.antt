@@ -1,6 +1,6 @@
 -- `field::product` answers what it promises.
 -- Assumes nothing.
-use mathlib.Core.Path.{_≡_, refl, sym, _∙_}
+use mathlib.Core.Path.{sym, _∙_}
 use Rattle.field.proofs.Promised.{refuses, gives, passed}
 use borrow.Author.Needs.{needs}
 use Rattle.field.proofs.product.Statement.{statement}

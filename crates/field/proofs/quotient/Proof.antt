@@ -1,6 +1,6 @@
 -- `field::quotient` answers what it promises.
 -- Assumes nothing.
-use mathlib.Core.Path.{_≡_, refl, sym, _∙_}
+use mathlib.Core.Path.{sym, _∙_}
 use Rattle.field.proofs.Powers.{over-zero}
 use Rattle.field.proofs.Promised.{refuses, gives, passed}
 use borrow.Author.Needs.{needs}

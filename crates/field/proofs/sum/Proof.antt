@@ -1,7 +1,6 @@
 -- `field::sum` answers what it promises.
 -- Assumes nothing.
-use mathlib.Core.Path.{_≡_, refl, sym, _∙_}
-use native.Mathlib.Omega.{arith}
+use mathlib.Core.Path.{refl, sym, _∙_}
 use Rattle.field.specs.Symbols.{plus}
 use Rattle.field.proofs.Promised.{refuses, gives}
 use borrow.Author.Needs.{needs}

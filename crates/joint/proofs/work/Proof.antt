@@ -10,14 +10,14 @@ use Rattle.mark.specs.Code.{codeOf}
 use Rattle.ending.specs.Endings.{Buffers, Ends}
 use Rattle.joint.specs.Promises.{buffers}
 use Rattle.joint.specs.Working.{released, fronts}
-use Rattle.joint.proofs.Places.{copied-front}
+use Rattle.mark.proofs.Rows.{copied}
 use Rattle.joint.proofs.Blank.{blank-of}
 use borrow.Author.Needs.{needs}
 use Rattle.joint.proofs.work.Statement.{statement}
 use Rattle.joint.proofs.work.Tie as tie
 
 held : (c : tie.After-copy) → take (length (c .before .before .before .before .before .before .before .before .before .args .points .now)) (c .copy .last .1 .0) ≡ c .before .before .before .before .before .before .before .before .before .args .points .now
-held c = copied-front (c .before .before .before .before .before .before .before .before .before .args .points .now) (replicate 96 0) (c .copy .ensures .1)
+held c = copied (c .before .before .before .before .before .before .before .before .before .args .points .now) (replicate 96 0) (c .copy .ensures .1)
 
 lend-requires : tie.Need-lend-requires
 lend-requires c κs = search needs

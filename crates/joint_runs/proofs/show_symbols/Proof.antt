@@ -1,6 +1,5 @@
 -- `joint_runs::show_symbols` is safe and ends.
 -- Assumes nothing.
-use mathlib.Core.Path.{_≡_}
 use Prim.Native.Nat.{_-_, _≤_}
 use native.Mathlib.Omega.{arith}
 use lib.ListN.{length}

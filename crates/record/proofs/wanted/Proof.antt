@@ -1,7 +1,6 @@
 -- `wanted` asks for the mark, the head and the rest, one after the other.
 -- Assumes nothing.
-use mathlib.Core.Path.{_≡_, sym, _∙_}
-use native.Mathlib.Omega.{arith}
+use mathlib.Core.Path.{sym, _∙_}
 use Rattle.record.proofs.Heads.{wants-mark, wants-no-more, wants-head, wants-head-alone, wants-all}
 use borrow.Author.Needs.{needs}
 use Rattle.record.proofs.wanted.Statement.{statement}

@@ -1,8 +1,7 @@
 -- `records::next_line` is safe: the record fits the buffer, and its line the other.
 -- Assumes nothing.
-use mathlib.Core.Path.{_≡_, sym}
+use mathlib.Core.Path.{sym}
 use native.Mathlib.Omega.{arith}
-use lib.ListN.{length}
 use lib.Seq.{length-take-le}
 use Rattle.io.specs.Counts.{Counts}
 use borrow.Author.Needs.{needs}

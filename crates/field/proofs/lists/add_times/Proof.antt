@@ -1,6 +1,6 @@
 -- `field::lists::add_times` adds a constant times the symbols of a list.
 -- Assumes nothing.
-use mathlib.Core.Path.{_≡_, ap, _∙_}
+use mathlib.Core.Path.{ap, _∙_}
 use native.Mathlib.Omega.{arith}
 use Rattle.patch.proofs.Laws.{patch-cong}
 use Rattle.field.specs.Symbols.{plus}

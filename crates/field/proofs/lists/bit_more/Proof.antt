@@ -1,6 +1,6 @@
 -- `field::lists::bit_more` adds a bit of a product.
 -- Assumes nothing.
-use mathlib.Core.Path.{_≡_, ap₂, _∙_}
+use mathlib.Core.Path.{ap₂}
 use lib.Bits.{bitXor}
 use Rattle.field.specs.Symbols.{plus}
 use Rattle.field.proofs.Sums.{plus-below}

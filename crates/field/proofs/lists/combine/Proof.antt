@@ -1,6 +1,6 @@
 -- `field::lists::combine` combines the doublings by the bits of the symbol.
 -- Assumes nothing.
-use mathlib.Core.Path.{_≡_, sym, ap₂, _∙_}
+use mathlib.Core.Path.{sym, ap₂, _∙_}
 use lib.Bits.{bitXor, xor-zero-r}
 use Rattle.field.specs.Symbols.{plus}
 use Rattle.field.specs.Combining.{combinedFrom}

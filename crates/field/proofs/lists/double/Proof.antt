@@ -1,13 +1,10 @@
 -- `field::lists::double` is x times the symbol.
 -- Assumes nothing.
-use mathlib.Core.Path.{_≡_, ap, _∙_}
-use Prim.Native.Nat.{ℕ, _<_, _≤_, _-_, _^_}
-use lib.Bits.{bitXor}
+use Prim.Native.Nat.{_-_}
 use Rattle.refusal.proofs.Laws.{up-to-eight, positive}
 use Rattle.field.specs.Symbols.{plus}
 use Rattle.field.proofs.Instance.{generated}
 use Rattle.field.proofs.Combined.{doubled-small, doubled-large}
-use borrow.Author.Needs.{needs}
 use Rattle.field.proofs.lists.double.Statement.{statement}
 use Rattle.field.proofs.lists.double.Tie as tie
 

@@ -1,13 +1,12 @@
 -- `field::lists::doubling` is x^i times the symbol.
 -- Assumes nothing.
-use mathlib.Core.Path.{_≡_, sym, ap, _∙_}
+use mathlib.Core.Path.{sym, _∙_}
 use native.Mathlib.Omega.{arith}
 use Rattle.refusal.proofs.Laws.{field-size, up-to-eight}
 use Rattle.field.proofs.Products.{times-high}
 use Rattle.field.proofs.Instance.{generated}
 use Rattle.field.proofs.Reading.{product-is}
 use Rattle.field.proofs.Powers.{power-small, degree-within}
-use borrow.Author.Needs.{needs}
 use Rattle.field.proofs.lists.doubling.Statement.{statement}
 use Rattle.field.proofs.lists.doubling.Tie as tie
 

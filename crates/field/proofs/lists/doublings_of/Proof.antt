@@ -1,6 +1,6 @@
 -- `field::lists::doublings_of` is the list of doublings.
 -- Assumes nothing.
-use mathlib.Core.Path.{_≡_, sym}
+use mathlib.Core.Path.{sym}
 use Rattle.field.specs.Combining.{doublingsFrom}
 use Rattle.field.proofs.Instance.{generated}
 use Rattle.field.proofs.Combined.{doublings-zero}

@@ -1,10 +1,8 @@
 -- `field::lists::masked` is the bit times the byte.
 -- Assumes nothing.
-use Prim.Native.Nat.{ℕ, _*_, _<_}
 use mathlib.Core.Path.{_≡_, sym}
 use native.Mathlib.Nat.{zero-mul, one-mul}
 use native.Mathlib.Omega.{arith}
-use borrow.Author.Needs.{needs}
 use Rattle.field.proofs.lists.masked.Statement.{statement}
 use Rattle.field.proofs.lists.masked.Tie as tie
 

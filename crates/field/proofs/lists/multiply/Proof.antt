@@ -1,6 +1,6 @@
 -- `field::lists::multiply` multiplies a part by the symbols of a list.
 -- Assumes nothing.
-use mathlib.Core.Path.{_≡_, ap, _∙_}
+use mathlib.Core.Path.{ap, _∙_}
 use Prim.Native.Nat.{ℕ, _/_}
 use native.Mathlib.Omega.{arith}
 use Rattle.refusal.proofs.Laws.{field-size, positive}

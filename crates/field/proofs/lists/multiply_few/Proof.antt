@@ -1,14 +1,13 @@
 -- `field::lists::multiply_few` multiplies the symbols by the table, one after the other.
 -- Assumes nothing.
-use mathlib.Core.Path.{_≡_, sym, ap, _∙_}
-use mathlib.Core.List.{List}
-use Prim.Native.Nat.{ℕ, _+_, _-_, _≤_, _<_}
+use mathlib.Core.Path.{_≡_, sym, ap}
+use Prim.Native.Nat.{ℕ, _-_, _≤_}
 use native.Mathlib.Nat.{zero-add}
 use native.Mathlib.Omega.{arith}
 use lib.ListN.{length, getD}
 use Rattle.patch.specs.Patch.{patch}
 use Rattle.patch.proofs.Laws.{patch-none, length-patch, patch-step, here}
-use Rattle.field.specs.Symbols.{plus, times}
+use Rattle.field.specs.Symbols.{plus}
 use Rattle.field.specs.Lists.{multiplied}
 use Rattle.field.proofs.Sums.{plus-below}
 use Rattle.field.proofs.ListProducts.{as-before, multiplied-is}

@@ -1,6 +1,6 @@
 -- `field::lists::product_by_bits` is the product.
 -- Assumes nothing.
-use mathlib.Core.Path.{_≡_, _∙_}
+use mathlib.Core.Path.{_∙_}
 use Rattle.refusal.proofs.Laws.{up-to-eight}
 use Rattle.field.proofs.Combined.{low-zero, low-step, low-times}
 use borrow.Author.Needs.{needs}

@@ -1,6 +1,6 @@
 -- `field::lists::scale` is a constant times a part.
 -- Assumes nothing.
-use mathlib.Core.Path.{_≡_, _∙_}
+use mathlib.Core.Path.{_∙_}
 use Prim.Native.Nat.{_+_}
 use native.Mathlib.Omega.{arith}
 use Rattle.patch.proofs.Laws.{patch-cong}

@@ -1,6 +1,5 @@
 -- `field::tables::exponent_from` is the exponent of a symbol that is not zero.
 -- Assumes nothing.
-use mathlib.Core.Path.{_≡_}
 use Rattle.field.proofs.Instance.{generated}
 use Rattle.field.proofs.Reading.{exponent-is}
 use borrow.Author.Needs.{needs}

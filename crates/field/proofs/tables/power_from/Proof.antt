@@ -1,7 +1,6 @@
 -- `field::tables::power_from` is the power of x.
 -- Assumes nothing.
 use native.Mathlib.Omega.{arith}
-use mathlib.Core.Path.{_≡_}
 use Rattle.refusal.proofs.Laws.{field-size}
 use Rattle.field.proofs.Instance.{generated}
 use Rattle.field.proofs.Reading.{power-at}

@@ -1,6 +1,6 @@
 -- `field::tables::product_from` is the product.
 -- Assumes nothing.
-use mathlib.Core.Path.{_≡_, sym, ap, _∙_}
+use mathlib.Core.Path.{sym, _∙_}
 use native.Mathlib.Omega.{arith}
 use Rattle.refusal.proofs.Laws.{field-size}
 use Rattle.field.proofs.Products.{zero-times, times-comm}

@@ -1,6 +1,6 @@
 -- `field::tables::quotient_from` is the quotient by a symbol that is not zero.
 -- Assumes nothing.
-use mathlib.Core.Path.{_≡_, sym, ap, _∙_}
+use mathlib.Core.Path.{sym, _∙_}
 use native.Mathlib.Omega.{arith}
 use lib.Pow.{pow-pos}
 use Rattle.refusal.proofs.Laws.{field-size}

@@ -1,11 +1,8 @@
 -- `field::tables::size` is the number of symbols.
 -- Assumes nothing.
-use Prim.Native.Nat.{ℕ, _^_, _*_, _%_, _≤_, _<_}
-use mathlib.Core.Path.{_≡_, _∙_}
 use native.Mathlib.Nat.{one-mul, mod-eq-of-lt}
 use native.Mathlib.Omega.{arith}
 use Rattle.refusal.proofs.Laws.{up-to-eight, field-size}
-use borrow.Author.Needs.{needs}
 use Rattle.field.proofs.tables.size.Statement.{statement}
 use Rattle.field.proofs.tables.size.Tie as tie
 

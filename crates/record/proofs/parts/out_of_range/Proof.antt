@@ -1,6 +1,6 @@
 -- `parts::out_of_range` tests the two counts.
 -- Assumes nothing.
-use mathlib.Core.Path.{sym, _∙_}
+use mathlib.Core.Path.{sym}
 use Rattle.record.proofs.Heads.{rows-out, rows-in}
 use borrow.Author.Needs.{needs}
 use Rattle.record.proofs.parts.out_of_range.Statement.{statement}

@@ -2,7 +2,6 @@
 -- Assumes nothing.
 use mathlib.Core.Path.{refl}
 use native.Mathlib.Omega.{arith}
-use Rattle.ending.specs.declared.Ending.the-variants.{Refused, Corrected, Several, Hollow}
 use Rattle.record.proofs.Fields.{ended, ended-plain, ended-none}
 use borrow.Author.Needs.{needs}
 use Rattle.record.proofs.text.put_ending.Statement.{statement}

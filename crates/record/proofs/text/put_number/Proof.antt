@@ -1,9 +1,8 @@
 -- `text::put_number` writes what `io::decimal` makes of a number.
 -- Assumes nothing.
-use mathlib.Core.Path.{_≡_, sym, ap, _∙_}
+use mathlib.Core.Path.{_≡_, _∙_}
 use native.Mathlib.Nat.{le-refl}
-use native.Mathlib.Omega.{arith}
-use lib.ListN.{length, take}
+use lib.ListN.{take}
 use Rattle.record.specs.Lines.{decimal}
 use Rattle.record.proofs.Decimals.{digits-decimal}
 use borrow.Author.Needs.{needs}

@@ -1,7 +1,6 @@
 -- `text::put_wrong` writes the columns whose flag is not 0, one after the other.
 -- Assumes nothing.
 use Prim.Native.Nat.{_-_}
-use native.Mathlib.Omega.{arith}
 use lib.ListN.{length}
 use Rattle.record.proofs.Fields.{Wrong, wrong-begin, wrong-skip, wrong-room, wrong-put, wrong-end}
 use borrow.Author.Needs.{needs}
