@@ -14,13 +14,7 @@ ghost use Rattle.mark.proofs.Proper.{Proper};
 ghost use Rattle.desk.specs.Verdict.{Misfits};
 use field::tables::LENT;
 use mark::checks;
-
-// A byte as a count.
-fn wide(x: u8) -> usize
-    ensures { λ r. ⌜ r ≡ x ⌝ }
-{
-    x as usize
-}
+use mark::checks::wide;
 
 // 1 where the row is not values of a polynomial with at most k coefficients, 0 where it is: k rounds of divided differences
 // leave something, or nothing, but zeros; ws are the inverses of the rounds.

@@ -854,7 +854,7 @@ fn wide(a: u8) -> usize
     a as usize
 }
 
-// How many symbols the field has.
+// For the crates above: how many symbols the field has.
 pub fn size(degree: u32) -> usize
     requires { ⌜ badDegree degree ≡ false ⌝ }
     ensures { λ r. ⌜ r ≡ 2 ^ degree ⌝ }

@@ -1,9 +1,8 @@
 // The conditions that a received array puts on its locators: row after row, points with the values that divided differences
 // leave there.
 ghost use mathlib.Core.Path.{_≡_};
-ghost use mathlib.Core.Bool.{true, false};
-ghost use mathlib.Core.Logic.{_↔_};
-ghost use Prim.Native.Nat.{ℕ, _+_, _-_, _≤_};
+ghost use mathlib.Core.Bool.{false};
+ghost use Prim.Native.Nat.{_+_, _-_, _≤_};
 ghost use lib.ListN.{length, getD, drop};
 ghost use Rattle.patch.specs.Patch.{patch};
 ghost use Rattle.patch.specs.Parts.{lay};
@@ -20,13 +19,7 @@ ghost use Rattle.mark.proofs.Proper.{Proper, Within};
 ghost use Rattle.joint.specs.Working.{reducedPoints, reducedValues};
 use field::tables::LENT;
 use mark::checks;
-
-// A byte as a count.
-fn wide(x: u8) -> usize
-    ensures { λ r. ⌜ r ≡ x ⌝ }
-{
-    x as usize
-}
+use mark::checks::wide;
 
 // How many conditions each row has.
 pub(crate) fn row_counts(lengths: &[u8], points: &[u8], counts: &mut [usize])
@@ -38,20 +31,6 @@ pub(crate) fn row_counts(lengths: &[u8], points: &[u8], counts: &mut [usize])
         counts[l] = points.len() - wide(lengths[l]);
         l += 1;
     }
-}
-
-// Whether all symbols are zero.
-pub(crate) fn all_zero(s: &[u8]) -> bool
-    ensures { λ r. ⌜ (r ≡ true) ↔ All (λ (a : ℕ). a ≡ 0) (now (s .entry)) ⌝ }
-{
-    let mut i = 0;
-    while i < s.len() {
-        if s[i] != 0 {
-            return false;
-        }
-        i += 1;
-    }
-    true
 }
 
 // The conditions of a row: what k rounds of divided differences leave of it, in us from `at` on, and the points, in xs; ws are

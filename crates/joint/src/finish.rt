@@ -21,19 +21,13 @@ ghost use Rattle.joint.specs.Working.{flagOf, zerosIn, put, refilled, fr
 use ending::Ending;
 use field::tables::LENT;
 use mark::checks;
+use mark::checks::wide;
 
 // The flag of a value: 1 if it is zero.
 fn flag_of(value: u8) -> u8
     ensures { λ r. ⌜ r ≡ flagOf value ⌝ }
 {
     if value == 0 { 1 } else { 0 }
-}
-
-// A byte as a count.
-fn wide(x: u8) -> usize
-    ensures { λ r. ⌜ r ≡ x ⌝ }
-{
-    x as usize
 }
 
 // Flags the values that are zero; answers how many are.

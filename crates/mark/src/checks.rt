@@ -8,8 +8,8 @@ ghost use Rattle.refusal.specs.Refusal.{_when_, badPoints, first, someOutside, 
 ghost use Rattle.mark.specs.Code.{codeOf, jointLimit, largest, total};
 ghost use Rattle.mark.specs.Checks.{bufferChecks, codeChecks, decodeChecks, encodeChecks, readChecks};
 
-// A byte as a count.
-pub(crate) fn wide(x: u8) -> usize
+// For the crates above: a byte as a count.
+pub fn wide(x: u8) -> usize
     ensures { λ r. ⌜ r ≡ x ⌝ }
 {
     x as usize

@@ -1,7 +1,7 @@
 // Interleaved Reed-Solomon arrays: encoding and reading.
 pub mod checks;
 mod encoding;
-mod reading;
+pub mod reading;
 
 ghost use Rattle.mark.specs.Code.{codeOf};
 ghost use Rattle.mark.specs.Promises.{Encodes, Reads, left};

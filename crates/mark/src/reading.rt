@@ -19,8 +19,8 @@ use crate::checks;
 use field::tables;
 use field::tables::LENT;
 
-// Whether all symbols are zero.
-fn all_zero(s: &[u8]) -> bool
+// For the crates above: whether all symbols are zero.
+pub fn all_zero(s: &[u8]) -> bool
     ensures { λ r. ⌜ (r ≡ true) ↔ All (λ (a : ℕ). a ≡ 0) (now (s .entry)) ⌝ }
 {
     let mut i = 0;

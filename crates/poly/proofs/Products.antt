@@ -4,7 +4,7 @@
 --   mul-scale, scale-mul    products with a multiple
 --   const-mul, mul-const    products with a constant
 --   mul-comm, mul-assoc     commutativity and associativity, where lists are not empty
---   length-mul, symbols-mul, poly-mul    how long a product is; it is always of symbols
+--   length-mul, symbols-mul    how long a product is; it is always of symbols
 -- Assumes nothing.
 use mathlib.Core.Path.{_≡_, refl, sym, ap, ap₂, _∙_}
 use mathlib.Core.List.{List, [], _∷_}
@@ -13,7 +13,7 @@ use native.Mathlib.Omega.{arith}
 use lib.ListN.{length}
 use Rattle.field.specs.Arithmetic.{Arithmetic}
 use Rattle.field.proofs.Laws.{Field}
-use Rattle.poly.specs.Poly.{All, Zero, Poly, add, scale, mul}
+use Rattle.poly.specs.Poly.{All, Zero, add, scale, mul}
 use Rattle.poly.proofs.Ring.{plus-zero, zero-plus, times-comm, times-zero}
 use Rattle.poly.proofs.Sums.{sums, length-add, length-scale, symbols-add, symbols-scale, add-nil, add-comm, add-left-comm, add-assoc, scale-add, plus-scale, scale-scale, zero-scale, add-zero}
 
@@ -36,9 +36,6 @@ module _ {K : Type 0} (A : Arithmetic K) (𝓕 : Field A) where
   unfolding mul
   symbols-mul [] q = tt
   symbols-mul (a ∷ p) q = symbols-add A 𝓕 (scale A a q) (𝟎 ∷ mul A p q) (symbols-scale A 𝓕 a q) (𝓕 .zero-in, symbols-mul p q)
-
-  pub poly-mul : {m n : ℕ} {p q : List K} → Poly A (suc m) p → Poly A (suc n) q → Poly A (suc (m + n)) (mul A p q)
-  poly-mul {p = p} {q = q} h k = record { count = length-mul p q (h .count) (k .count); symbols = symbols-mul p q }
 
   shift-add : (u v : List K) → add A (𝟎 ∷ u) (𝟎 ∷ v) ≡ 𝟎 ∷ add A u v
   unfolding add

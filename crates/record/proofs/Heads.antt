@@ -3,7 +3,7 @@
 --   few-bytes               fewer than two bytes are no wrong mark
 --   first-byte, second-byte    where the first byte is not the mark's, and where it is
 --   rows-out, rows-in       the same for the count of rows
---   in-range, rows-most, columns-most, cells-most, size-most    what a head in range says
+--   in-range, rows-most, columns-most, cells-most    what a head in range says
 --   wants-mark, wants-no-more, wants-head, wants-head-alone, wants-all    how many bytes are wanted, case by case
 -- Assumes nothing.
 use mathlib.Core.Path.{_≡_}
@@ -56,10 +56,6 @@ module _ (b : List ℕ) (h : outOfRange b ≡ false) where
 
   pub cells-most : rowsIn b * columnsIn b ≤ 384
   cells-most = mul-le-mul (rows-most .1) (columns-most .1)
-
-  pub size-most : sizeIn b ≤ 490
-  unfolding sizeIn
-  size-most = omega (arith, rows-most .1, columns-most .1, cells-most)
 
 module _ (b : List ℕ) where
   pub wants-mark : length b < 2 → wanted b ≡ 2

@@ -11,6 +11,7 @@ ghost use Rattle.record.specs.Records.{stopOf, wanted};
 ghost use Rattle.record.specs.Promises.{Answers, LineOf, recordIn};
 ghost use Rattle.record.specs.Working.{Puts, roomOf};
 use ending::Ending;
+use mark::checks::wide;
 
 // The answer to what is left of the input: nothing is left; a line, after which reading stops; a line, after which it goes on.
 // The number is the line's length.
@@ -44,8 +45,8 @@ fn decode(number: u64, bytes: &[u8], out: &mut [u8], space: &mut [u8]) -> usize
     requires { ⌜ (stopOf (now bytes) ≡ 0) × (323 ≤ length (now out)) ⌝ }
     ensures { λ r. ⌜ ((line : List ℕ) × LineOf number (recordIn (now (space .entry)) (now (bytes .entry))) line × Puts (now (out .entry)) 0 line (now (out .exit)) r × (r ≤ 323)) ⌝ }
 {
-    let r = parts::wide(bytes[3]);
-    let n = parts::wide(bytes[4]);
+    let r = wide(bytes[3]);
+    let n = wide(bytes[4]);
     let points = 6 + r;
     let symbols = points + n;
     let mut array = [0u8; 384];

@@ -4,16 +4,10 @@ ghost use Prim.Native.Nat.{_≤_};
 ghost use mathlib.Core.Bool.{false};
 ghost use lib.ListN.{length};
 ghost use Rattle.record.specs.Records.{noMark, outOfRange, sizeIn, stopOf};
+use mark::checks::wide;
 
 // The two bytes that a record begins with, 42 4D.
 pub const MARK: [u8; 2] = *b"BM";
-
-// A byte as a count.
-pub(crate) fn wide(x: u8) -> usize
-    ensures { λ r. ⌜ r ≡ x ⌝ }
-{
-    x as usize
-}
 
 // Two bytes are present that are not the mark.
 pub(crate) fn no_mark(bytes: &[u8]) -> bool

@@ -19,7 +19,7 @@ use Rattle.record.proofs.decode.Tie as tie
 use Rattle.record.proofs.decode.Reads as reads
 use Rattle.record.proofs.decode.Lts as lts
 use Rattle.joint.proofs.decode.Reads as decode-reads
-use Rattle.record.proofs.parts.wide.Reads as wide-reads
+use Rattle.mark.proofs.checks.wide.Reads as wide-reads
 use Rattle.record.proofs.text.put_line.Reads as put-line-reads
 
 abbrev blank : List ℕ

@@ -7,7 +7,7 @@ use Rattle.record.proofs.parts.out_of_range.Statement.{statement}
 use Rattle.record.proofs.parts.out_of_range.Tie as tie
 use Rattle.record.proofs.parts.out_of_range.Reads as reads
 use Rattle.record.proofs.parts.out_of_range.Lts as lts
-use Rattle.record.proofs.parts.wide.Reads as wide-reads
+use Rattle.mark.proofs.checks.wide.Reads as wide-reads
 use Rattle.refusal.proofs.outside.Reads as outside-reads
 
 shared-slice-read-wide : tie.Need-shared-slice-read-wide

@@ -13,7 +13,7 @@ use Rattle.record.proofs.parts.size.Statement.{statement}
 use Rattle.record.proofs.parts.size.Tie as tie
 use Rattle.record.proofs.parts.size.Reads as reads
 use Rattle.record.proofs.parts.size.Lts as lts
-use Rattle.record.proofs.parts.wide.Reads as wide-reads
+use Rattle.mark.proofs.checks.wide.Reads as wide-reads
 
 module _ (c : tie.After-wide2) where
   abbrev bytes : List ℕ

@@ -18,7 +18,7 @@ use Rattle.record.proofs.parts.stop.Lts as lts
 use Rattle.record.proofs.parts.no_mark.Reads as no-mark-reads
 use Rattle.record.proofs.parts.out_of_range.Reads as out-of-range-reads
 use Rattle.record.proofs.parts.size.Reads as size-reads
-use Rattle.record.proofs.parts.wide.Reads as wide-reads
+use Rattle.mark.proofs.checks.wide.Reads as wide-reads
 use Rattle.refusal.proofs.bad_degree.Reads as bad-degree-reads
 use Rattle.refusal.proofs.outside.Reads as outside-reads
 
