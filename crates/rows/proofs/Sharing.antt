@@ -5,9 +5,9 @@
 --   round-inverses    what it has of a round
 --   fewer-rounds, fewer-points    it serves shorter rows, and rows over the first of its points
 -- Assumes nothing.
-use mathlib.Core.Path.{_≡_, refl, sym, _∙_}
-use mathlib.Core.List.{List, [], _∷_}
-use Prim.Native.Nat.{ℕ, zero, suc, _+_, _-_, _*_, _≤_, _<_}
+use mathlib.Core.Path.{_≡_, sym, _∙_}
+use mathlib.Core.List.{List}
+use Prim.Native.Nat.{ℕ, _+_, _-_, _*_, _≤_, _<_}
 use native.Mathlib.Decide.{decLt}
 use native.Mathlib.Omega.{arith}
 use lib.ListN.{length, getD, take, drop, length-drop}
@@ -60,9 +60,9 @@ module _ (d : ℕ) (xs : List ℕ) where
     pub fewer-rounds : {m : ℕ} → m ≤ k → Inverses d xs m ws
     fewer-rounds h = record { room = omega (arith, all .room); each = λ j i g l. all .each j i (omega arith) l }
 
-    pub fewer-points : {m : ℕ} → m ≤ length xs → Inverses d (take m xs) k ws
+    pub fewer-points : (m : ℕ) → m ≤ length xs → Inverses d (take m xs) k ws
     unfolding inverse
-    fewer-points {m} h =
+    fewer-points m h =
         let size : length (take m xs) ≡ m = length-take-le m xs h in
         record {
           room = all .room;

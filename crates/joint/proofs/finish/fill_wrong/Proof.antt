@@ -1,7 +1,6 @@
 -- `finish::fill_wrong` takes the inverses of the longest row's rounds over the right columns, and lends them to all rows.
 -- Assumes nothing.
 use mathlib.Core.Path.{_≡_, sym}
-use mathlib.Core.List.{List}
 use Prim.Native.Nat.{ℕ, _≤_}
 use native.Mathlib.Omega.{arith}
 use lib.ListN.{length, take}

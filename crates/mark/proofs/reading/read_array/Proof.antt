@@ -1,6 +1,6 @@
 -- `reading::read_array` takes the inverses of the longest row's rounds, and lends them to all rows.
 -- Assumes nothing.
-use mathlib.Core.Path.{_≡_, refl}
+use mathlib.Core.Path.{refl}
 use native.Mathlib.Omega.{arith}
 use lib.ListN.{length}
 use Rattle.mark.specs.Code.{codeOf}
