@@ -60,9 +60,9 @@ module _ (d : ℕ) (xs : List ℕ) where
     pub fewer-rounds : {m : ℕ} → m ≤ k → Inverses d xs m ws
     fewer-rounds h = record { room = omega (arith, all .room); each = λ j i g l. all .each j i (omega arith) l }
 
-    pub fewer-points : {m : ℕ} → m ≤ length xs → Inverses d (take m xs) k ws
+    pub fewer-points : (m : ℕ) → m ≤ length xs → Inverses d (take m xs) k ws
     unfolding inverse
-    fewer-points {m} h =
+    fewer-points m h =
         let size : length (take m xs) ≡ m = length-take-le m xs h in
         record {
           room = all .room;

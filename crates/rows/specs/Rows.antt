@@ -3,7 +3,7 @@
 --   Points d xs            xs are symbols of the field of degree d, no two equal
 --   inverse d xs j i       1/(x − x_j), x being the i-th point behind the j-th
 --   difference d xs us j i (u − u_j)/(x − x_j), u being the entry of the row us at the point x
---   RoundInverses d xs j w w are the inverses of round j, those of the differences between the points behind the j-th and the j-th
+--   RoundInverses d xs j w w are the inverses of round j, one for each point behind the j-th
 --   Inverses d xs k ws     ws has the inverses of k rounds, those of round j from place 96·j on
 use mathlib.Core.Path.{_≡_}
 use Prim.Native.Nat.{ℕ, _+_, _-_, _*_, _≤_, _<_}

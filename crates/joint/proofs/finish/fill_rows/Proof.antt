@@ -54,7 +54,7 @@ module _ (c : tie.In-loop Inv-loop μ-loop) where
       let p = start .pre .1 .1 in
       let long : most ≤ length xs = longest-right (start .args .points .now) (start .args .marks .now) (start .args .flags .now) (p .0 .0) (p .0 .1) (start .args .lengths .now) (p .0 .2) (p .1 .0) in
       let size : length (take most xs) ≡ most = length-take-le most xs long in
-      rw e (rw (take-take k most xs few) at (fewer-rounds _ _ (fewer-points _ _ (start .pre .1 .1 .1 .2) {m = k} (omega arith)) few))
+      rw e (rw (take-take k most xs few) at (fewer-rounds _ _ (fewer-points _ _ (start .pre .1 .1 .1 .2) k (omega arith)) few))
 
 loop-holds : tie.Need-loop-holds Inv-loop μ-loop
 loop-holds c = search needs
