@@ -1,7 +1,6 @@
 -- Texts laid one behind another.
 --
 --   puts-then     two texts put one behind the other are the two in one
---   puts-text     so is a text that is laid
 -- Assumes nothing.
 use mathlib.Core.Path.{_≡_, _∙_}
 use mathlib.Core.List.{List, _++_}

@@ -5,3 +5,5 @@ pub mod Heads
 pub mod Wholes
 pub mod Replies
 pub mod Unique
+pub mod Enough
+pub mod Printed

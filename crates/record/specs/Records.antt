@@ -60,9 +60,9 @@ noMark b = leb 2 (length b) && not (begins mark b)
 unfoldable pub outOfRange : List ℕ → Bool
 outOfRange b = outside 1 4 (rowsIn b) || outside 1 96 (columnsIn b)
 
--- 'Fewer than five bytes left: 13, except that two bytes which are present and are not the mark give 12. With r and n in range, a
--- record that the input cuts short gives 13, ahead of any other number. Reading stops after 12, after 13, and after a record with r
--- or n out of range', whose number is the first of 1, 2 and 3 that applies.
+-- 'Fewer than five bytes left: 13, except that two bytes which are present and are not the mark give 12. With r and n in range,
+-- a record that the input cuts short gives 13, ahead of any other number. Reading stops after 12, after 13, and after a record
+-- with r or n out of range', whose number is the first of 1, 2 and 3 that applies.
 abbrev pub stopChecks : List ℕ → List Check
 stopChecks b =
     (12 when noMark b)

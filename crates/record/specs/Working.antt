@@ -1,9 +1,7 @@
--- What the functions inside an answer compute. No promise cites these.
+-- What the functions inside an answer compute. No promise cites these, but for the room that a reply's line takes.
 --
 --   Puts lent at v left r     v is laid in a buffer from `at` on, and r is the place behind it
---   columnText s c            a column behind the byte s
 --   followed s cs             columns behind the byte s, joined by commas
---   fieldText t n             a number behind a text
 --   fieldsOf e fs             the fields of a line behind its number, each behind a space
 --   roomOf r                  the length of the line of a reply
 use mathlib.Core.Path.{_≡_}

@@ -12,11 +12,6 @@ use Rattle.record.proofs.Replies.{answers-end, answers-stop, answers-ne
 use borrow.Author.Needs.{needs}
 use Rattle.record.proofs.answer.Statement.{statement}
 use Rattle.record.proofs.answer.Tie as tie
-use Rattle.record.proofs.answer.Reads as reads
-use Rattle.record.proofs.answer.Lts as lts
-use Rattle.record.proofs.decode.Reads as decode-reads
-use Rattle.record.proofs.parts.stop.Reads as stop-reads
-use Rattle.record.proofs.text.put_line.Reads as put-line-reads
 
 counts : (r : ℕ) (l : List ℕ) → r ≤ length l → Counts r l
 counts r l h = (h, sym (length-take-le r l h))

@@ -6,9 +6,6 @@ use lib.ListN.{length}
 use borrow.Author.Needs.{needs}
 use Rattle.records.proofs.main.Statement.{statement}
 use Rattle.records.proofs.main.Tie as tie
-use Rattle.records.proofs.main.Reads as reads
-use Rattle.records.proofs.main.Lts as lts
-use Rattle.records.proofs.next_line.Reads as next-line-reads
 
 abbrev Inv-loop : tie.InvT-loop
 Inv-loop held₀ number₀ held number = length held ≡ 490

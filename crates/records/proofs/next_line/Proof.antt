@@ -7,11 +7,6 @@ use Rattle.io.specs.Counts.{Counts}
 use borrow.Author.Needs.{needs}
 use Rattle.records.proofs.next_line.Statement.{statement}
 use Rattle.records.proofs.next_line.Tie as tie
-use Rattle.records.proofs.next_line.Reads as reads
-use Rattle.records.proofs.next_line.Lts as lts
-use Rattle.io.proofs.write_all.Reads as write-all-reads
-use Rattle.record.proofs.answer.Reads as answer-reads
-use Rattle.records.proofs.next_record.Reads as next-record-reads
 
 stopped : (c : tie.After-n) → Counts (c .n .given .0 .0) (c .before .before .answer .last .1 .1 .0)
 stopped c = rw (c .n .given .1) at (c .before .before .answer .ensures .1)

@@ -8,10 +8,6 @@ use lib.Seq.{length-take-le}
 use borrow.Author.Needs.{needs}
 use Rattle.records.proofs.next_record.Statement.{statement}
 use Rattle.records.proofs.next_record.Tie as tie
-use Rattle.records.proofs.next_record.Reads as reads
-use Rattle.records.proofs.next_record.Lts as lts
-use Rattle.io.proofs.read_full.Reads as read-full-reads
-use Rattle.record.proofs.wanted.Reads as wanted-reads
 
 abbrev Inv-loop : tie.InvT-loop
 Inv-loop held₀ got₀ held got = (got ≤ 490) × (length held ≡ length held₀)

@@ -5,8 +5,6 @@ use Rattle.record.proofs.Heads.{few-bytes, first-byte, second-byte}
 use borrow.Author.Needs.{needs}
 use Rattle.record.proofs.parts.no_mark.Statement.{statement}
 use Rattle.record.proofs.parts.no_mark.Tie as tie
-use Rattle.record.proofs.parts.no_mark.Reads as reads
-use Rattle.record.proofs.parts.no_mark.Lts as lts
 
 returns : tie.Need-returns
 returns c = sym (few-bytes _ (c .if1 .taken))

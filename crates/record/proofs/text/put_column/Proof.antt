@@ -7,9 +7,6 @@ use Rattle.patch.proofs.Parts.{length-lay, lay-cons}
 use borrow.Author.Needs.{needs}
 use Rattle.record.proofs.text.put_column.Statement.{statement}
 use Rattle.record.proofs.text.put_column.Tie as tie
-use Rattle.record.proofs.text.put_column.Reads as reads
-use Rattle.record.proofs.text.put_column.Lts as lts
-use Rattle.record.proofs.text.put_number.Reads as put-number-reads
 
 slice-write-out : tie.Need-slice-write-out
 slice-write-out c = search needs

@@ -5,10 +5,6 @@ use Rattle.record.proofs.Fields.{followed-short, no-columns, some-colum
 use borrow.Author.Needs.{needs}
 use Rattle.record.proofs.text.put_columns.Statement.{statement}
 use Rattle.record.proofs.text.put_columns.Tie as tie
-use Rattle.record.proofs.text.put_columns.Reads as reads
-use Rattle.record.proofs.text.put_columns.Lts as lts
-use Rattle.record.proofs.text.put_text.Reads as put-text-reads
-use Rattle.record.proofs.text.put_wrong.Reads as put-wrong-reads
 
 put-wrong-requires : tie.Need-put-wrong-requires
 put-wrong-requires c κs = omega (arith, followed-short (c .before .before .before .args .flags .now) (c .before .before .before .pre .0))

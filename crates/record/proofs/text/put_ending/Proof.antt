@@ -6,11 +6,6 @@ use Rattle.record.proofs.Fields.{ended, ended-plain, ended-none}
 use borrow.Author.Needs.{needs}
 use Rattle.record.proofs.text.put_ending.Statement.{statement}
 use Rattle.record.proofs.text.put_ending.Tie as tie
-use Rattle.record.proofs.text.put_ending.Reads as reads
-use Rattle.record.proofs.text.put_ending.Lts as lts
-use Rattle.record.proofs.text.put_columns.Reads as put-columns-reads
-use Rattle.record.proofs.text.put_field.Reads as put-field-reads
-use Rattle.record.proofs.text.put_text.Reads as put-text-reads
 
 enum-known-ending : tie.Need-enum-known-ending
 enum-known-ending c = search needs

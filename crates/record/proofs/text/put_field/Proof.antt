@@ -9,10 +9,6 @@ use Rattle.record.proofs.Layouts.{puts-then}
 use borrow.Author.Needs.{needs}
 use Rattle.record.proofs.text.put_field.Statement.{statement}
 use Rattle.record.proofs.text.put_field.Tie as tie
-use Rattle.record.proofs.text.put_field.Reads as reads
-use Rattle.record.proofs.text.put_field.Lts as lts
-use Rattle.record.proofs.text.put_number.Reads as put-number-reads
-use Rattle.record.proofs.text.put_text.Reads as put-text-reads
 
 short : (c : tie.Start) → length (decimal (c .args .n)) ≤ 3
 short c = decimal-short 2 (c .args .n) (omega arith)

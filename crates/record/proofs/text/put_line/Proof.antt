@@ -13,11 +13,6 @@ use Rattle.record.proofs.Fields.{line-parts}
 use borrow.Author.Needs.{needs}
 use Rattle.record.proofs.text.put_line.Statement.{statement}
 use Rattle.record.proofs.text.put_line.Tie as tie
-use Rattle.record.proofs.text.put_line.Reads as reads
-use Rattle.record.proofs.text.put_line.Lts as lts
-use Rattle.record.proofs.text.put_ending.Reads as put-ending-reads
-use Rattle.record.proofs.text.put_number.Reads as put-number-reads
-use Rattle.record.proofs.text.put_text.Reads as put-text-reads
 
 short : (c : tie.Start) → length (decimal (c .args .number)) ≤ 20
 short c = decimal-short 19 (c .args .number) (omega arith)

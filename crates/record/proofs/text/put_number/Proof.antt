@@ -8,10 +8,6 @@ use Rattle.record.proofs.Decimals.{digits-decimal}
 use borrow.Author.Needs.{needs}
 use Rattle.record.proofs.text.put_number.Statement.{statement}
 use Rattle.record.proofs.text.put_number.Tie as tie
-use Rattle.record.proofs.text.put_number.Reads as reads
-use Rattle.record.proofs.text.put_number.Lts as lts
-use Rattle.io.proofs.decimal.Reads as decimal-reads
-use Rattle.record.proofs.text.put_text.Reads as put-text-reads
 
 digits : (c : tie.After-decimal) → take (c .decimal .result) (c .decimal .last .1 .0) ≡ decimal (c .before .before .before .args .n)
 unfolding decimal

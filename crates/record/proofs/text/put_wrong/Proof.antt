@@ -6,9 +6,6 @@ use Rattle.record.proofs.Fields.{Wrong, wrong-begin, wrong-skip, wrong-
 use borrow.Author.Needs.{needs}
 use Rattle.record.proofs.text.put_wrong.Statement.{statement}
 use Rattle.record.proofs.text.put_wrong.Tie as tie
-use Rattle.record.proofs.text.put_wrong.Reads as reads
-use Rattle.record.proofs.text.put_wrong.Lts as lts
-use Rattle.record.proofs.text.put_column.Reads as put-column-reads
 
 abbrev Inv-loop : tie.InvT-loop
 Inv-loop out₀ at flags end₀ gap₀ i₀ out end gap i = Wrong out₀ at flags out end gap i

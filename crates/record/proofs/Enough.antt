@@ -1,0 +1,146 @@
+-- The bytes beyond those wanted do not matter.
+--
+--   enough    the answer to the bytes at hand is the answer to all that is left, once there are as many as are wanted
+--   rest-of   where the record is whole, the next one begins behind the bytes at hand
+-- Assumes nothing.
+use mathlib.Core.Path.{_≡_, refl, sym, ap, ap₂, _∙_}
+use mathlib.Core.Bool.{Bool, true, false, _||_, _&&_}
+use mathlib.Core.List.{List, [], _∷_, _++_}
+use Prim.Native.Nat.{ℕ, zero, suc, _+_, _-_, _*_, _≤_, _<_}
+use native.Mathlib.Decide.{decLt}
+use native.Mathlib.Omega.{arith}
+use lib.Dec.{ltb}
+use lib.ListN.{length, getD, take, drop, length-append, length-drop, List·getD-append}
+use lib.Seq.{take-append-le, drop-append-le, drop-append-seam}
+use borrow.Author.Tests.{le-leb, le-ltb}
+use Rattle.refusal.specs.Refusal.{Check, _when_, first, badDegree, outside}
+use Rattle.refusal.proofs.Laws.{hit}
+use Rattle.joint.specs.Promises.{Given}
+use Rattle.record.specs.Records.{begins, noMark, outOfRange, degreeIn, rowsIn, columnsIn, lengthsIn, limitIn, pointsIn, symbolsIn, sizeIn, stopOf, wanted}
+use Rattle.record.specs.Promises.{recordIn, fresh, AnswersBy, Answers}
+use Rattle.record.specs.declared.Reply.{Reply}
+use Rattle.record.proofs.Heads.{wants-mark, wants-head, wants-all}
+use Rattle.record.proofs.Wholes.{whole-of}
+
+same-mark : (b rest : List ℕ) → 2 ≤ length b → noMark (b ++ rest) ≡ noMark b
+unfolding noMark begins
+same-mark [] rest h = absurd (omega arith)
+same-mark (x ∷ []) rest h = absurd (omega arith)
+same-mark (x ∷ y ∷ b) rest h =
+    simp (le-leb 2 (length (x ∷ y ∷ b)) h, le-leb 2 (length (x ∷ y ∷ (b ++ rest))) (omega arith))
+
+-- the reasons to stop, from their tests
+checks : (m c d o₁ o₂ s : Bool) → List Check
+checks m c d o₁ o₂ s =
+    (12 when m) ∷ (13 when c) ∷ (1 when (o₁ || o₂) && d) ∷ (2 when o₁) ∷ (3 when o₂) ∷ (13 when s) ∷ []
+
+-- the last is asked where r and n are in range
+last-asked : (m c d o₁ o₂ s s′ : Bool) → (o₁ || o₂ ≡ false → s ≡ s′) → first (checks m c d o₁ o₂ s) ≡ first (checks m c d o₁ o₂ s′)
+unfolding checks first
+last-asked m c d true o₂ s s′ h = refl
+last-asked m c d false true s s′ h = refl
+last-asked m c d false false s s′ h = ap (λ (x : Bool). first (checks m c d false false x)) (h refl)
+
+stop-is : (b : List ℕ)
+    → stopOf b
+    ≡ first (checks (noMark b) (ltb (length b) 5) (badDegree (degreeIn b)) (outside 1 4 (rowsIn b)) (outside 1 96 (columnsIn b)) (ltb (length b) (sizeIn b)))
+unfolding stopOf outOfRange checks
+stop-is b = refl
+
+module _ (b rest : List ℕ) (five : 5 ≤ length b) where
+  at : (i : ℕ) → i < 5 → getD (b ++ rest) i 0 ≡ getD b i 0
+  at i h = List·getD-append b rest 0 i (omega arith)
+
+  same-size : sizeIn (b ++ rest) ≡ sizeIn b
+  unfolding sizeIn
+  same-size = ap₂ (λ (r n : ℕ). 6 + r + n + r * n) (at 3 (omega arith)) (at 4 (omega arith))
+
+  same-stop : (outOfRange b ≡ false → sizeIn b ≤ length b) → stopOf (b ++ rest) ≡ stopOf b
+  unfolding outOfRange
+  same-stop whole =
+      let more : length (b ++ rest) ≡ length b + length rest = length-append b rest in
+      let m = same-mark b rest (omega arith) in
+      let c : ltb (length (b ++ rest)) 5 ≡ ltb (length b) 5 = le-ltb (length (b ++ rest)) 5 (omega arith) ∙ sym (le-ltb (length b) 5 five) in
+      let d = ap badDegree (at 2 (omega arith)) in
+      let o₁ = ap (outside 1 4) (at 3 (omega arith)) in
+      let o₂ = ap (outside 1 96) (at 4 (omega arith)) in
+      let s = last-asked (noMark b) (ltb (length b) 5) (badDegree (degreeIn b)) (outside 1 4 (rowsIn b)) (outside 1 96 (columnsIn b))
+      (ltb (length (b ++ rest)) (sizeIn (b ++ rest))) (ltb (length b) (sizeIn b))
+      (λ o. le-ltb (length (b ++ rest)) (sizeIn (b ++ rest)) (omega (arith, same-size, whole o)) ∙ sym (le-ltb (length b) (sizeIn b) (whole o))) in
+      let e = stop-is (b ++ rest) in
+      let e′ = stop-is b in
+      cc
+
+  part : (n k : ℕ) → n + k ≤ length b → take k (drop n (b ++ rest)) ≡ take k (drop n b)
+  part n k h =
+      ap (take k) (drop-append-le n b rest (omega arith)) ∙ take-append-le k (drop n b) rest (omega (arith, length-drop n b))
+
+  same-record : (w : List ℕ) → sizeIn b ≤ length b → recordIn w (b ++ rest) ≡ recordIn w b
+  unfolding sizeIn lengthsIn limitIn pointsIn symbolsIn
+  same-record w whole =
+      let r = at 3 (omega arith) in
+      let n = at 4 (omega arith) in
+      let d = at 2 (omega arith) in
+      let ks = ap (λ (x : ℕ). take x (drop 5 (b ++ rest))) r ∙ part 5 (rowsIn b) (omega arith) in
+      let t = ap (λ (x : ℕ). getD (b ++ rest) (5 + x) 0) r ∙ List·getD-append b rest 0 (5 + rowsIn b) (omega arith) in
+      let xs = ap₂ (λ (x y : ℕ). take y (drop (6 + x) (b ++ rest))) r n ∙ part (6 + rowsIn b) (columnsIn b) (omega arith) in
+      let ys = ap₂ (λ (x y : ℕ). take (x * y) (drop (6 + x + y) (b ++ rest))) r n
+      ∙ part (6 + rowsIn b + columnsIn b) (rowsIn b * columnsIn b) (omega arith) in
+      cc
+
+by-cases : {P : Type 0} (x : Bool) → (x ≡ true → P) → (x ≡ false → P) → P
+by-cases true t f = t refl
+by-cases false t f = f refl
+
+-- as many bytes as are wanted, with the mark, are five, and the whole record where r and n are in range
+module _ (b : List ℕ) (h : wanted b ≤ length b) where
+  two : 2 ≤ length b
+  two = go (decLt (length b) 2)
+    where
+      go : Dec (length b < 2) → 2 ≤ length b
+      go (yes l) = omega (arith, wants-mark b l)
+      go (no l) = omega arith
+
+  module _ (m : noMark b ≡ false) where
+    five : 5 ≤ length b
+    five = go (decLt (length b) 5)
+      where
+        go : Dec (length b < 5) → 5 ≤ length b
+        go (yes l) = omega (arith, wants-head b two m l)
+        go (no l) = omega arith
+
+    complete : outOfRange b ≡ false → sizeIn b ≤ length b
+    complete o = omega (arith, wants-all b two m five o)
+
+  stop-twelve : (l : List ℕ) → noMark l ≡ true → stopOf l ≡ 12
+  unfolding stopOf
+  stop-twelve l m = hit _ _ _ m
+
+  pub same-answer : (rest : List ℕ) → (stopOf (b ++ rest) ≡ stopOf b) × (stopOf b ≡ 0 → recordIn fresh (b ++ rest) ≡ recordIn fresh b)
+  same-answer rest =
+      by-cases (noMark b)
+      (λ m. (stop-twelve (b ++ rest) (same-mark b rest two ∙ m) ∙ sym (stop-twelve b m), λ z. absurd (omega (arith, stop-twelve b m))))
+      (λ m. (same-stop b rest (five m) (complete m), λ z. same-record b rest (five m) fresh (whole-of b z .complete)))
+
+same-by : (s number : ℕ) (g g′ : Given) (lent : List ℕ) (r : Reply) (left : List ℕ) → (s ≡ 0 → g ≡ g′)
+    → _≡_ {A = Type 0} (AnswersBy s number g lent r left) (AnswersBy s number g′ lent r left)
+same-by zero number g g′ lent r left e = ap (λ (x : Given). AnswersBy zero number x lent r left) (e refl)
+same-by (suc k) number g g′ lent r left e = refl
+
+pub enough : (number : ℕ) (b rest lent : List ℕ) (r : Reply) (left : List ℕ) → wanted b ≤ length b
+    → _≡_ {A = Type 0} (Answers number (b ++ rest) lent r left) (Answers number b lent r left)
+enough number [] rest lent r left h = absurd (let z : 2 ≤ 0 = two [] h in omega arith)
+enough number (x ∷ b) rest lent r left h =
+    let same = same-answer (x ∷ b) h rest in
+    ap (λ (s : ℕ). AnswersBy s number (recordIn fresh (x ∷ b ++ rest)) lent r left) (same .0)
+    ∙ same-by (stopOf (x ∷ b)) number (recordIn fresh (x ∷ b ++ rest)) (recordIn fresh (x ∷ b)) lent r left (same .1)
+
+pub rest-of : (b rest : List ℕ) → stopOf b ≡ 0 → length b ≡ wanted b → drop (sizeIn (b ++ rest)) (b ++ rest) ≡ rest
+rest-of b rest z e =
+    let w = whole-of b z in
+    let m = no-mark in
+    let size : sizeIn (b ++ rest) ≡ length b = same-size b rest (w .five) ∙ sym (wants-all b (omega (arith, w .five)) m (w .five) (w .inside)) ∙ sym e in
+    ap (λ (k : ℕ). drop k (b ++ rest)) size ∙ drop-append-seam b rest
+  where
+    no-mark : noMark b ≡ false
+    no-mark = by-cases (noMark b) (λ m. absurd (omega (arith, z, stop-twelve b (omega arith) b m))) (λ m. m)
