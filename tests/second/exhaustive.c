@@ -1,7 +1,7 @@
 /* Demand 3 seen to hold by a program that knows nothing of locators: all arrays over GF(4) with few columns and rows, all message
  * lengths and all trial limits, against a search over sets of wrong columns.
  *
- *   exhaustive [MOST]    arrays of up to MOST symbols (default 6)
+ *   exhaustive [MOST]    arrays of up to MOST symbols (default 8: all with two rows of four)
  */
 #include "grenhyrna.h"
 #include "second.h"
@@ -100,7 +100,7 @@ static int check(const uint8_t *ks, size_t r, const uint8_t *points, size_t n, u
 int main(int argc, char **argv)
 {
     static const uint8_t points[MOST_COLUMNS] = {2, 0, 3, 1};
-    size_t most = argc > 1 ? strtoul(argv[1], NULL, 10) : 6;
+    size_t most = argc > 1 ? strtoul(argv[1], NULL, 10) : 8;
     for (size_t n = 1; n <= MOST_COLUMNS; n++)
         for (size_t r = 1; r <= 2; r++) {
             if (r * n > most)
