@@ -1,26 +1,42 @@
 -- A product combined from doublings, and one worked out bit by bit, is the product.
 --
+--   sixteenth, eight   a sixteenth by halves; the degree above 4
 --   combined-times     combined (doublings d c) s = s·c
 --   doublings-zero     nothing doubled is nothing
+--   doublings-short    doublings end with the degree
+--   four-combined, combined-zero    four bits more; no bit
+--   combined-none      entries that are zero combine to nothing
 --   low-zero, low-step no bit; one bit more
---   low-times          the product over eight bits, for symbols of any degree
+--   low-times          the product over as many bits as symbols have, or more
 --   doubled-small, doubled-large    x times a symbol, in a byte, by whether its top bit is set
 -- Assumes nothing.
 use mathlib.Core.Path.{_≡_, refl, sym, ap, ap₂, _∙_}
+use mathlib.Core.Bool.{false}
 use mathlib.Core.Logic.{⊎-elim}
 use mathlib.Core.List.{List, _∷_}
 use Prim.Native.Nat.{ℕ, zero, suc, _+_, _-_, _*_, _/_, _%_, _^_, _≤_, _<_}
-use native.Mathlib.Nat.{mod-eq-of-lt, div-eq-of-lt, div-eq-of-lt-le, mul-div-cancel, lt-of-lt-of-le, one-mul, zero-mul, mul-one, mul-assoc, mul-comm, pow-suc, add-zero, zero-add, add-suc, suc-add}
+use native.Mathlib.Nat.{mod-eq-of-lt, div-eq-of-lt, div-eq-of-lt-le, mul-div-cancel, lt-of-lt-of-le, one-mul, zero-mul, mul-zero, mul-one, mul-assoc, mul-comm, pow-suc, add-zero, zero-add, add-suc, suc-add}
 use native.Mathlib.Numerals.{add-one}
+use native.Mathlib.Decide.{decLt}
 use native.Mathlib.Omega.{arith}
-use lib.ListN.{getD, replicate}
+use lib.ListN.{length, getD, replicate, List·getD-eq-default}
 use lib.Arith.{lt-one}
 use lib.Pow.{pow-pos, pow-mono, shr-lt}
+use Rattle.refusal.specs.Refusal.{badDegree}
+use Rattle.refusal.proofs.Laws.{degrees}
 use Rattle.field.specs.Symbols.{plus, modulus, timesX, timesLow, times}
-use Rattle.field.specs.Combining.{doublingsFrom, combinedFrom}
+use Rattle.field.specs.Combining.{doublingsFrom, combinedFrom, Short}
 use Rattle.field.proofs.Sums.{plus-comm, plus-zero, plus-self, plus-shift, plus-low, top, bit-cases, bit-lt, Additive, additive-zero, additive-bit}
-use Rattle.field.proofs.Products.{timesX-plus, plus-times, Tested, times-comm, times-below, x-times, zero-times}
+use Rattle.field.proofs.Products.{timesX-plus, plus-times, Tested, times-comm, times-below, x-times, zero-times, times-high}
 use Rattle.field.proofs.Powers.{Generated}
+
+-- a sixteenth is a half of a half of a half of a half
+pub sixteenth : (s : ℕ) → s / 16 ≡ s / 2 / 2 / 2 / 2
+sixteenth s = omega arith
+
+-- of the degrees, only 8 is above 4
+pub eight : (d : ℕ) → badDegree d ≡ false → 4 < d → d ≡ 8
+eight d h large = ⊎-elim (λ (e : d ≡ 2). absurd (let z : d ≤ 4 = omega arith in omega arith)) (⊎-elim (λ (e : d ≡ 4). absurd (let z : d ≤ 4 = omega arith in omega arith)) (λ (e : d ≡ 8). e)) (degrees d h)
 
 half-below : (n s : ℕ) → s < 2 ^ suc n → s / 2 < 2 ^ n
 half-below n s h = shr-lt n 1 (rw (add-one n) h)
@@ -31,10 +47,44 @@ doublings-at d c i zero k h = absurd (let z : k < 0 = h in omega arith)
 doublings-at d c i (suc n) zero h = ap (λ (x : ℕ). times d (2 ^ x) c) (sym (add-zero i))
 doublings-at d c i (suc n) (suc k) h = doublings-at d c (suc i) n k (omega arith) ∙ ap (λ (x : ℕ). times d (2 ^ x) c) (suc-add i k ∙ sym (add-suc i k))
 
+length-doublings : (d c i n : ℕ) → length (doublingsFrom d c i n) ≡ n
+unfolding doublingsFrom
+length-doublings d c i zero = refl
+length-doublings d c i (suc n) = ap suc (length-doublings d c (suc i) n)
+
 pub doublings-zero : (d : ℕ) → Tested d → (i n : ℕ) → doublingsFrom d 0 i n ≡ replicate n 0
 unfolding doublingsFrom
 doublings-zero d 𝓣 i zero = refl
 doublings-zero d 𝓣 i (suc n) = ap₂ _∷_ (times-comm d 𝓣 (2 ^ i) 0 ∙ zero-times d 𝓣 (2 ^ i)) (doublings-zero d 𝓣 (suc i) n)
+
+pub doublings-short : (d : ℕ) → Tested d → (c : ℕ) → Short d (doublingsFrom d c 0 8)
+doublings-short d 𝓣 c h k = by (decLt k 4)
+  where
+    by : Dec (k < 4) → getD (doublingsFrom d c 0 8) (4 + k) 0 ≡ 0
+    by (yes lt) = doublings-at d c 0 8 (4 + k) (omega arith) ∙ times-high d 𝓣 (0 + (4 + k)) c (omega arith)
+    by (no ge) = List·getD-eq-default (doublingsFrom d c 0 8) 0 (omega (arith, length-doublings d c 0 8))
+
+-- four bits more
+pub four-combined : (r : List ℕ) (i n s : ℕ) {v higher : ℕ}
+    → v ≡ plus (s % 2 * getD r i 0) (plus (s / 2 % 2 * getD r (suc i) 0) (plus (s / 2 / 2 % 2 * getD r (suc (suc i)) 0) (plus (s / 2 / 2 / 2 % 2 * getD r (suc (suc (suc i))) 0) higher)))
+    → higher ≡ combinedFrom r (suc (suc (suc (suc i)))) n (s / 2 / 2 / 2 / 2) → v ≡ combinedFrom r i (suc (suc (suc (suc n)))) s
+unfolding combinedFrom
+four-combined r i n s is e =
+    is ∙ ap (λ (x : ℕ). plus (s % 2 * getD r i 0) (plus (s / 2 % 2 * getD r (suc i) 0) (plus (s / 2 / 2 % 2 * getD r (suc (suc i)) 0) (plus (s / 2 / 2 / 2 % 2 * getD r (suc (suc (suc i))) 0) x)))) e
+
+pub combined-zero : (r : List ℕ) (i s : ℕ) → combinedFrom r i 0 s ≡ 0
+unfolding combinedFrom
+combined-zero r i s = refl
+
+pub combined-none : (r : List ℕ) (i n s : ℕ) → ((k : ℕ) → getD r (i + k) 0 ≡ 0) → combinedFrom r i n s ≡ 0
+unfolding combinedFrom
+combined-none r i zero s e = refl
+combined-none r i (suc n) s e =
+    ap₂ plus (ap (λ (x : ℕ). s % 2 * x) (rw (add-zero i) at (e 0))) (combined-none r (suc i) n (s / 2) (λ k. rw (← (suc-out k)) (e (suc k))))
+    ∙ ap (λ (x : ℕ). plus x 0) (mul-zero (s % 2)) ∙ plus-self 0
+  where
+    suc-out : (k : ℕ) → i + suc k ≡ suc i + k
+    suc-out k = omega arith
 
 -- s·2^i bit by bit
 bits : (s i : ℕ) → s * 2 ^ i ≡ plus (s % 2 * 2 ^ i) (s / 2 * 2 ^ suc i)
@@ -86,9 +136,9 @@ low-more d (suc n) zero a b h k = absurd (let z : suc n ≤ 0 = h in omega arith
 low-more d (suc n) (suc m) a b h k =
     ap (λ (x : ℕ). plus (a % 2 * b) (timesX d x)) (low-more d n m (a / 2) b (omega arith) (half-below n a k))
 
-pub low-times : (d a b : ℕ) → d ≤ 8 → a < 2 ^ d → b < 2 ^ d → timesLow d 8 a b ≡ times d a b
+pub low-times : (d n a b : ℕ) → d ≤ n → a < 2 ^ d → b < 2 ^ d → timesLow d n a b ≡ times d a b
 unfolding times
-low-times d a b h ha hb = low-more d d 8 a b h ha ∙ ap (timesLow d d a) (sym (mod-eq-of-lt hb))
+low-times d n a b h ha hb = low-more d d n a b h ha ∙ ap (timesLow d d a) (sym (mod-eq-of-lt hb))
 
 -- half of the field
 pub half-size : (d : ℕ) → 0 < d → 2 ^ d / 2 ≡ 2 ^ (d - 1)

@@ -5,5 +5,5 @@ pub mod Powers
 pub mod Instance
 pub mod Reading
 pub mod Combined
-pub mod ListProducts
+pub mod InParts
 pub mod Promised

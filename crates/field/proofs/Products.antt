@@ -2,6 +2,7 @@
 -- tests of the degree at powers of two, since the product is additive in both factors.
 --
 --   times-plus, plus-times        distributivity
+--   cut-left                      only the d low bits of a factor count
 --   Tested d                      the tests that the polynomial of degree d passes, which antt computes
 --   times-below                   a product is a symbol
 --   times-comm, times-assoc       for all numbers
@@ -62,7 +63,7 @@ low-cut d (suc n) a b =
     (ap (timesX d) (ap (λ (h : ℕ). timesLow d n h b) (rw (← (add-one n)) (Pow.field a n 1)) ∙ low-cut d n (a / 2) b))
 
 -- only the d low bits of the factors count
-cut-left : (d a b : ℕ) → times d (a % 2 ^ d) b ≡ times d a b
+pub cut-left : (d a b : ℕ) → times d (a % 2 ^ d) b ≡ times d a b
 unfolding times
 cut-left d a b = low-cut d d a (b % 2 ^ d)
 

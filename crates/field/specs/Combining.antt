@@ -2,9 +2,10 @@
 --
 --   doublings d c        c, x·c, …, x^7·c; 0 where x^i is no symbol
 --   combined r s         the sum of those entries of r at which s has a bit
+--   Short d r            in a field of at most sixteen symbols r has nothing from the fifth entry on
 --   Reducer d half low   what a doubling in a byte needs: the top bit of a symbol, and the polynomial's low eight bits
 use mathlib.Core.Path.{_≡_}
-use Prim.Native.Nat.{ℕ, zero, suc, _-_, _*_, _/_, _%_, _^_}
+use Prim.Native.Nat.{ℕ, zero, suc, _+_, _-_, _*_, _/_, _%_, _^_, _≤_}
 use mathlib.Core.List.{List, [], _∷_}
 use lib.ListN.{getD}
 use Rattle.field.specs.Symbols.{plus, modulus, times}
@@ -24,6 +25,9 @@ combinedFrom r i (suc n) s = plus (s % 2 * getD r i 0) (combinedFrom r (suc i) n
 
 abbrev pub combined : List ℕ → ℕ → ℕ
 combined r s = combinedFrom r 0 8 s
+
+abbrev pub Short : ℕ → List ℕ → Type 0
+Short d r = d ≤ 4 → (k : ℕ) → getD r (4 + k) 0 ≡ 0
 
 pub record Reducer (d half low : ℕ) : Type 0 where
   pub top : half ≡ 2 ^ (d - 1)

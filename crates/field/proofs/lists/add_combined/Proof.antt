@@ -17,10 +17,10 @@ abbrev addedBy : List ℕ → List ℕ → List ℕ → ℕ → ℕ → ℕ
 addedBy r w l at k = plus (getD l (at + k) 0) (combined r (getD w k 0))
 
 abbrev Inv-loop : tie.InvT-loop
-Inv-loop r w s₀ at i₀ s i = (i ≤ length w) × (s ≡ patch at i (addedBy r w s₀ at) s₀)
+Inv-loop degree r w s₀ at i₀ s i = (i ≤ length w) × (s ≡ patch at i (addedBy r w s₀ at) s₀)
 
 abbrev μ-loop : tie.MeasureT-loop
-μ-loop r w s₀ at i₀ s i = length w - i
+μ-loop degree r w s₀ at i₀ s i = length w - i
 
 loop-holds : tie.Need-loop-holds Inv-loop μ-loop
 loop-holds c = (search needs, sym (patch-none _ _ _))

@@ -1,91 +1,88 @@
 -- `field::lists::combine` combines the doublings by the bits of the symbol.
 -- Assumes nothing.
-use mathlib.Core.Path.{sym, ap₂, _∙_}
-use lib.Bits.{bitXor, xor-zero-r}
-use Rattle.field.specs.Symbols.{plus}
-use Rattle.field.specs.Combining.{combinedFrom}
+use mathlib.Core.Path.{sym}
+use Rattle.field.proofs.Combined.{sixteenth, four-combined, combined-zero, combined-none}
 use borrow.Author.Needs.{needs}
 use Rattle.field.proofs.lists.combine.Statement.{statement}
 use Rattle.field.proofs.lists.combine.Tie as tie
 
-element-copy-out-masked : tie.Need-element-copy-out-masked
-element-copy-out-masked c = search needs
+element-copy-out-combine-four : tie.Need-element-copy-out-combine-four
+element-copy-out-combine-four c = search needs
 
-masked-requires : tie.Need-masked-requires
-masked-requires c κs = search needs
+element-copy-out-combine-four-2 : tie.Need-element-copy-out-combine-four-2
+element-copy-out-combine-four-2 c = search needs
 
-element-copy-out-masked-2 : tie.Need-element-copy-out-masked-2
-element-copy-out-masked-2 c = search needs
+element-copy-out-combine-four-3 : tie.Need-element-copy-out-combine-four-3
+element-copy-out-combine-four-3 c = search needs
 
-masked-requires-2 : tie.Need-masked-requires-2
-masked-requires-2 c κs = search needs
+element-copy-out-combine-four-4 : tie.Need-element-copy-out-combine-four-4
+element-copy-out-combine-four-4 c = search needs
 
-element-copy-out-masked-3 : tie.Need-element-copy-out-masked-3
-element-copy-out-masked-3 c = search needs
-
-masked-requires-3 : tie.Need-masked-requires-3
-masked-requires-3 c κs = search needs
-
-element-copy-out-masked-4 : tie.Need-element-copy-out-masked-4
-element-copy-out-masked-4 c = search needs
-
-masked-requires-4 : tie.Need-masked-requires-4
-masked-requires-4 c κs = search needs
-
-element-copy-out-masked-5 : tie.Need-element-copy-out-masked-5
-element-copy-out-masked-5 c = search needs
-
-masked-requires-5 : tie.Need-masked-requires-5
-masked-requires-5 c κs = search needs
-
-element-copy-out-masked-6 : tie.Need-element-copy-out-masked-6
-element-copy-out-masked-6 c = search needs
-
-masked-requires-6 : tie.Need-masked-requires-6
-masked-requires-6 c κs = search needs
-
-element-copy-out-masked-7 : tie.Need-element-copy-out-masked-7
-element-copy-out-masked-7 c = search needs
-
-masked-requires-7 : tie.Need-masked-requires-7
-masked-requires-7 c κs = search needs
-
-element-copy-out-masked-8 : tie.Need-element-copy-out-masked-8
-element-copy-out-masked-8 c = search needs
-
-masked-requires-8 : tie.Need-masked-requires-8
-masked-requires-8 c κs = search needs
+combine-four-requires : tie.Need-combine-four-requires
+combine-four-requires c κs = search needs
 
 returns : tie.Need-returns
-unfolding combinedFrom plus
 returns c =
-    ap₂ bitXor (c .before .before .before .before .before .before .before .before .before .before .before .before .before .before .masked .ensures)
-    (ap₂ bitXor (c .before .before .before .before .before .before .before .before .before .before .before .before .masked2 .ensures)
-    (ap₂ bitXor (c .before .before .before .before .before .before .before .before .before .before .masked3 .ensures)
-    (ap₂ bitXor (c .before .before .before .before .before .before .before .before .masked4 .ensures)
-    (ap₂ bitXor (c .before .before .before .before .before .before .masked5 .ensures)
-    (ap₂ bitXor (c .before .before .before .before .masked6 .ensures)
-    (ap₂ bitXor (c .before .before .masked7 .ensures)
-    (c .masked8 .ensures ∙ sym (xor-zero-r _))))))))
+    let start = c .before .before .before .before .before .before in
+    four-combined (start .args .r .now) 0 4 (start .args .s) (c .combine-four .ensures)
+    (sym (combined-none (start .args .r .now) 4 4 _ (c .before .before .before .before .before .before .pre (c .before .before .before .before .before .if1 .taken))))
+
+element-copy-out-combine-four-5 : tie.Need-element-copy-out-combine-four-5
+element-copy-out-combine-four-5 c = search needs
+
+element-copy-out-combine-four-6 : tie.Need-element-copy-out-combine-four-6
+element-copy-out-combine-four-6 c = search needs
+
+element-copy-out-combine-four-7 : tie.Need-element-copy-out-combine-four-7
+element-copy-out-combine-four-7 c = search needs
+
+element-copy-out-combine-four-8 : tie.Need-element-copy-out-combine-four-8
+element-copy-out-combine-four-8 c = search needs
+
+combine-four-requires-2 : tie.Need-combine-four-requires-2
+combine-four-requires-2 c κs = search needs
+
+element-copy-out-combine-four-9 : tie.Need-element-copy-out-combine-four-9
+element-copy-out-combine-four-9 c = search needs
+
+element-copy-out-combine-four-10 : tie.Need-element-copy-out-combine-four-10
+element-copy-out-combine-four-10 c = search needs
+
+element-copy-out-combine-four-11 : tie.Need-element-copy-out-combine-four-11
+element-copy-out-combine-four-11 c = search needs
+
+element-copy-out-combine-four-12 : tie.Need-element-copy-out-combine-four-12
+element-copy-out-combine-four-12 c = search needs
+
+combine-four-requires-3 : tie.Need-combine-four-requires-3
+combine-four-requires-3 c κs = search needs
+
+returns-2 : tie.Need-returns-2
+returns-2 c =
+    let start = c .before .before .before .before .before .before .before .before .before .before .before in
+    let r = start .args .r .now in
+    let s = start .args .s in
+    four-combined r 0 4 s (c .combine-four3 .ensures)
+    (four-combined r 4 0 _ (rw (sixteenth s) at (c .before .before .before .before .before .combine-four2 .ensures)) (sym (combined-zero r 8 _)))
 
 pub combine-spec : {M : Type 1} → statement M
 combine-spec =
     tie.close
     (tie.spec
-    element-copy-out-masked
-    masked-requires
-    element-copy-out-masked-2
-    masked-requires-2
-    element-copy-out-masked-3
-    masked-requires-3
-    element-copy-out-masked-4
-    masked-requires-4
-    element-copy-out-masked-5
-    masked-requires-5
-    element-copy-out-masked-6
-    masked-requires-6
-    element-copy-out-masked-7
-    masked-requires-7
-    element-copy-out-masked-8
-    masked-requires-8
-    returns)
+    element-copy-out-combine-four
+    element-copy-out-combine-four-2
+    element-copy-out-combine-four-3
+    element-copy-out-combine-four-4
+    combine-four-requires
+    returns
+    element-copy-out-combine-four-5
+    element-copy-out-combine-four-6
+    element-copy-out-combine-four-7
+    element-copy-out-combine-four-8
+    combine-four-requires-2
+    element-copy-out-combine-four-9
+    element-copy-out-combine-four-10
+    element-copy-out-combine-four-11
+    element-copy-out-combine-four-12
+    combine-four-requires-3
+    returns-2)

@@ -18,10 +18,10 @@ abbrev combinedBy : List ℕ → List ℕ → ℕ → ℕ → ℕ
 combinedBy r l at k = combined r (getD l (at + k) 0)
 
 abbrev Inv-loop : tie.InvT-loop
-Inv-loop r s₀ at n i₀ s i = (i ≤ n) × (s ≡ patch at i (combinedBy r s₀ at) s₀)
+Inv-loop degree r s₀ at n i₀ s i = (i ≤ n) × (s ≡ patch at i (combinedBy r s₀ at) s₀)
 
 abbrev μ-loop : tie.MeasureT-loop
-μ-loop r s₀ at n i₀ s i = n - i
+μ-loop degree r s₀ at n i₀ s i = n - i
 
 loop-holds : tie.Need-loop-holds Inv-loop μ-loop
 loop-holds c = (search needs, sym (patch-none _ _ _))

@@ -1,50 +1,97 @@
--- `field::lists::multiply` multiplies a part by the symbols of a list.
+-- `field::lists::multiply` multiplies by the sixteens of a list, and by what is left over.
 -- Assumes nothing.
-use mathlib.Core.Path.{ap, _∙_}
-use Prim.Native.Nat.{ℕ, _/_}
+use mathlib.Core.Path.{sym}
+use Prim.Native.Nat.{ℕ, _*_, _/_}
 use native.Mathlib.Omega.{arith}
-use Rattle.refusal.proofs.Laws.{field-size, positive}
-use Rattle.field.proofs.Combined.{half-size}
+use lib.ListN.{length}
+use lib.Seq.{length-take-le}
+use Rattle.field.specs.Symbols.{plus, times}
+use Rattle.field.specs.Lists.{multiplied}
+use Rattle.field.proofs.InParts.{whole-sixteens, front-factors, front-symbols, rest-length, back-factors, back-symbols, both-parts}
 use borrow.Author.Needs.{needs}
 use Rattle.field.proofs.lists.multiply.Statement.{statement}
 use Rattle.field.proofs.lists.multiply.Tie as tie
 
-size-requires : tie.Need-size-requires
-size-requires c κs = search needs
+-- what is written at a place, from the factor and from what stands there
+abbrev product : (c : tie.Start) → ℕ → ℕ → ℕ
+product c x y = times (c .args .degree) (plus x (c .args .a)) (plus y (c .args .b))
 
-cast-half : tie.Need-cast-half
-cast-half c = omega (arith, c .size .ensures, field-size _ (c .before .before .before .pre .0 .0))
+mul-many : tie.Need-mul-many
+mul-many c = omega (arith, whole-sixteens (length (c .before .before .args .w .now)))
 
-low-bits-requires : tie.Need-low-bits-requires
-low-bits-requires c κs = search needs
+slice-aggregate-multiply-front : tie.Need-slice-aggregate-multiply-front
+slice-aggregate-multiply-front c =
+    let w = c .before .before .before .args .w .now in sym (length-take-le (length w / 16 * 16) w (whole-sixteens (length w)))
 
-multiply-parts-requires : tie.Need-multiply-parts-requires
-multiply-parts-requires c κs =
-    let start = c .before .before .before .before .before in
-    let p = start .pre in (
+multiply-front-requires : tie.Need-multiply-front-requires
+multiply-front-requires c κs =
+    let start = c .before .before .before .before in
+    let w = start .args .w .now in
+    let p = start .pre in
+    let fits = whole-sixteens (length w) in (
+      p .0,
       (
-        p .0 .0,
-        p .0 .1,
-        record { top = ap (λ (x : ℕ). x / 2) (c .before .before .size .ensures) ∙ half-size _ (positive _ (p .0 .0)); rest = c .before .low-bits .ensures },
-        p .0 .2,
-        p .0 .3,
+        omega (arith, p .1 .0, length-take-le (length w / 16 * 16) w fits),
+        (
+          front-factors w (start .args .s .now) (start .args .at) _ fits _ (p .1 .1 .0),
+          front-symbols w (start .args .s .now) (start .args .at) _ fits _ (p .1 .1 .1),
+        ),
       ),
-      p .1,
+    )
+
+sub-multiply-few : tie.Need-sub-multiply-few
+sub-multiply-few c = whole-sixteens (length (c .before .before .before .before .before .before .before .args .w .now))
+
+part-multiply-few-start : tie.Need-part-multiply-few-start
+part-multiply-few-start c = search needs
+
+part-multiply-few-end : tie.Need-part-multiply-few-end
+part-multiply-few-end c = search needs
+
+add-multiply-few : tie.Need-add-multiply-few
+add-multiply-few c = search needs
+
+multiply-few-requires : tie.Need-multiply-few-requires
+unfolding multiplied
+multiply-few-requires c κs =
+    let start = c .before .before .before .before .before .before .before .before .before in
+    let w = start .args .w .now in
+    let l = start .args .s .now in
+    let p = start .pre in
+    let fits = whole-sixteens (length w) in
+    let fronted = c .before .before .before .before .multiply-front in (
+      p .0,
+      (
+        omega (arith, p .1 .0, rest-length w l (start .args .at) _ fits, fronted .kept),
+        (
+          back-factors w l (start .args .at) _ fits _ (p .1 .1 .0),
+          back-symbols w l (start .args .at) _ fits (product start) (fronted .ensures) _ (p .1 .1 .1),
+        ),
+      ),
     )
 
 same-length : tie.Need-same-length
 same-length c = search needs
 
 returns : tie.Need-returns
-returns c = search needs
+unfolding multiplied
+returns c =
+    let start = c .before .before .before .before .before .before .before .before .before .before .before .before in
+    let w = start .args .w .now in
+    both-parts w (start .args .s .now) (start .args .at) _ (whole-sixteens (length w)) (product start)
+    (c .before .before .before .before .before .before .before .multiply-front .ensures) (c .before .before .multiply-few .ensures)
 
 pub multiply-spec : {M : Type 1} → statement M
 multiply-spec =
     tie.close
     (tie.spec
-    size-requires
-    cast-half
-    low-bits-requires
-    multiply-parts-requires
+    mul-many
+    slice-aggregate-multiply-front
+    multiply-front-requires
+    sub-multiply-few
+    part-multiply-few-start
+    part-multiply-few-end
+    add-multiply-few
+    multiply-few-requires
     same-length
     returns)

@@ -5,7 +5,8 @@ use Prim.Native.Nat.{_+_}
 use native.Mathlib.Omega.{arith}
 use Rattle.patch.proofs.Laws.{patch-cong}
 use Rattle.field.specs.Lists.{scaled}
-use Rattle.field.proofs.Combined.{combined-times}
+use Rattle.field.proofs.Instance.{generated}
+use Rattle.field.proofs.Combined.{doublings-short, combined-times}
 use borrow.Author.Needs.{needs}
 use Rattle.field.proofs.lists.scale.Statement.{statement}
 use Rattle.field.proofs.lists.scale.Tie as tie
@@ -14,7 +15,10 @@ doublings-of-requires : tie.Need-doublings-of-requires
 doublings-of-requires c κs = search needs
 
 combine-all-requires : tie.Need-combine-all-requires
-combine-all-requires c κs = search needs
+combine-all-requires c κs =
+    let start = c .before .before .before .before in
+    let short = doublings-short _ (generated _ (start .pre .0 .0) .tested) (start .args .c) in
+    (rw (c .before .before .doublings-of .ensures) short, search needs)
 
 same-length : tie.Need-same-length
 same-length c = search needs
