@@ -3,6 +3,7 @@
 --   lin-at       what stands at a place of c + (x − a)·q
 --   lin-row      c + (x − a)·q from a multiple of q that is added to c, q
 --   lin-stored   the same as the code stores it
+--   copied       a copy of a part
 --   newtonFrom d nodes us j    the polynomial of the Newton form from coefficient j on
 --   newton-start, newton-step, newton-whole    it begins as nothing, a turn, and the end
 -- Assumes nothing.
@@ -81,18 +82,21 @@ module _ (d : ℕ) (good : badDegree d ≡ false) where
           patch-above at f s n (at + k) 0 (omega arith) ∙ stood k h
           ∙ sym (lin-at a c q k (omega arith) ∙ rw (end, times-zero (gf d) (field d good) a) (plus-zero (gf d) (field d good) (getD (c ∷ q) k 0)))
 
-  -- the same as the code has it: the polynomial is copied out, stored one place up behind c, and a multiple of it added
-  pub lin-stored : (at m a c : ℕ) (l z : List ℕ) {p s t : List ℕ} → m ≤ length z → at + (m + 1) ≤ length l
-      → p ≡ lay 0 (take (at + m - at) (drop at l)) z → s ≡ lay (at + 1) (take m p) (set l at c)
-      → t ≡ patch at (length (take m p)) (added d a (take m p) s at) s → t ≡ lay at (lin (gf d) a c (part at m l)) l
-  unfolding part
-  lin-stored at m a c l z {p} room fits one two three =
-      let q : List ℕ = part at m l in
-      let size : length q ≡ m = length-part at m l (omega arith) in
-      let all : at + m - at ≡ m = omega arith in
-      let front : take (length q) (lay 0 q z) ≡ q = part-lay 0 q z (omega arith) in
-      let copy : take m p ≡ q = rw (one, all) (rw size at front) in
-      lin-row at a c q l (omega arith) (two ∙ rw copy (lay-cons at c q l (omega arith))) (three ∙ rw copy refl)
+  -- the same as the code has it: the polynomial is stored one place up behind c, and a multiple of it added
+  pub lin-stored : (at a c : ℕ) (q l : List ℕ) {s t : List ℕ} → at + (length q + 1) ≤ length l
+      → s ≡ lay (at + 1) q (set l at c) → t ≡ patch at (length q) (added d a q s at) s → t ≡ lay at (lin (gf d) a c q) l
+  lin-stored at a c q l fits one two = lin-row at a c q l (omega arith) (one ∙ lay-cons at c q l (omega arith)) two
+
+-- m numbers, copied to the front of z
+pub copied : (at m : ℕ) (l z : List ℕ) {p : List ℕ} → m ≤ length z → at + m ≤ length l → p ≡ lay 0 (take (at + m - at) (drop at l)) z
+    → take m p ≡ part at m l
+unfolding part
+copied at m l z {p} room fits is =
+    let q : List ℕ = part at m l in
+    let size : length q ≡ m = length-part at m l fits in
+    let all : at + m - at ≡ m = omega arith in
+    let front : take (length q) (lay 0 q z) ≡ q = part-lay 0 q z (omega arith) in
+    rw (is, all) (rw size at front)
 
 module _ (d : ℕ) (good : badDegree d ≡ false) (nodes us : List ℕ) (enough : length us ≤ length nodes) where
   newton-cons : (j : ℕ) → j < length us

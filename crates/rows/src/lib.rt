@@ -149,6 +149,17 @@ pub fn values(table: &[u8; LENT], degree: u32, xs: &[u8], p: &[u8], s: &mut [u8]
     evaluate(table, degree, xs, &nodes, p, s, at);
 }
 
+// For the crates above: c + (x − a)·p, in s from `at` on.
+pub fn linear_of(table: &[u8; LENT], degree: u32, a: u8, c: u8, p: &[u8], s: &mut [u8], at: usize)
+    requires { ⌜ (badDegree degree ≡ false) × IsTable degree (now table) × (a < 2 ^ degree) ⌝ }
+    requires { ⌜ at + (length (now p) + 1) ≤ length (now s) ⌝ }
+    ensures { λ _. ⌜ now (s .exit) ≡ lay at (lin (gf degree) a c (now (p .entry))) (now (s .entry)) ⌝ }
+{
+    s[at] = c;
+    store(p, s, at + 1);
+    lists::add_times(table, degree, a, p, s, at);
+}
+
 // For the crates above: the polynomial p of m coefficients in s from `at` on becomes c + (x − a)·p.
 pub fn linear(table: &[u8; LENT], degree: u32, a: u8, c: u8, s: &mut [u8], at: usize, m: usize)
     requires { ⌜ (badDegree degree ≡ false) × IsTable degree (now table) × (a < 2 ^ degree) ⌝ }
@@ -157,9 +168,7 @@ pub fn linear(table: &[u8; LENT], degree: u32, a: u8, c: u8, s: &mut [u8], at: u
 {
     let mut p = [0u8; 384];
     store(&s[at..at + m], &mut p, 0);
-    s[at] = c;
-    store(&p[..m], s, at + 1);
-    lists::add_times(table, degree, a, &p[..m], s, at);
+    linear_of(table, degree, a, c, &p[..m], s, at);
 }
 
 // For the crates above: the coefficients of the polynomial with the Newton coefficients us at the nodes.

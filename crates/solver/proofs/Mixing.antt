@@ -68,10 +68,4 @@ mixed-only d ds p w at j l {s} {c} other value within fits is e =
 
 pub copied : (p at n : ℕ) (l z : List ℕ) {w : List ℕ} → at + n ≤ 768 → 768 * p + 768 ≤ length l → n ≤ length z
     → w ≡ lay 0 (take (768 * p + at + n - (768 * p + at)) (drop (768 * p + at) l)) z → take n w ≡ part at n (slots p l)
-unfolding part
-copied p at n l z within fits room is =
-    let q : List ℕ = part (768 * p + at) n l in
-    let size : length q ≡ n = length-part (768 * p + at) n l (omega arith) in
-    let all : 768 * p + at + n - (768 * p + at) ≡ n = omega arith in
-    let front : take (length q) (lay 0 q z) ≡ q = part-lay 0 q z (omega arith) in
-    rw (is, all) (rw size at front) ∙ part-slots p at n l within fits
+copied p at n l z within fits room is = rows.copied (768 * p + at) n l z room (omega arith) is ∙ part-slots p at n l within fits

@@ -1,10 +1,10 @@
--- `rows::linear` adds a multiple of a polynomial to the polynomial one place up.
+-- `rows::linear` copies the polynomial, and writes the new one over it.
 -- Assumes nothing.
-use mathlib.Core.Path.{_≡_, sym, _∙_}
+use mathlib.Core.Path.{_≡_, sym}
 use native.Mathlib.Omega.{arith}
-use lib.ListN.{length, take, length-set}
+use lib.ListN.{length, take}
 use lib.Seq.{length-take-le}
-use Rattle.rows.proofs.Newton.{lin-stored}
+use Rattle.rows.proofs.Newton.{copied}
 use borrow.Author.Needs.{needs}
 use Rattle.rows.proofs.linear.Statement.{statement}
 use Rattle.rows.proofs.linear.Tie as tie
@@ -27,43 +27,29 @@ slice-aggregate-store c = search needs
 store-requires : tie.Need-store-requires
 store-requires c κs = search needs
 
-slice-write-s : tie.Need-slice-write-s
-slice-write-s c = search needs
-
 array-share-prefix-p : tie.Need-array-share-prefix-p
 array-share-prefix-p c = search needs
 
-slice-aggregate-store-2 : tie.Need-slice-aggregate-store-2
-slice-aggregate-store-2 c = sym (length-take-le (c .before .before .before .before .before .before .before .args .m) (c .before .before .store .last .1 .0) (omega (arith, c .before .before .store .kept .1 .0, c .before .before .before .before .before .before .before .pre .1)))
+-- the copy has all coefficients
+front : (c : tie.After-p3) → length (take (c .before .before .before .before .before .before .before .args .m) (c .before .before .store .last .1 .0)) ≡ c .before .before .before .before .before .before .before .args .m
+front c = length-take-le (c .before .before .before .before .before .before .before .args .m) (c .before .before .store .last .1 .0) (omega (arith, c .before .before .store .kept .1 .0, c .before .before .before .before .before .before .before .pre .1))
 
-add-store-2 : tie.Need-add-store-2
-add-store-2 c = search needs
+slice-aggregate-linear-of : tie.Need-slice-aggregate-linear-of
+slice-aggregate-linear-of c = sym (front c)
 
-store-requires-2 : tie.Need-store-requires-2
-store-requires-2 c κs = rw length-set (omega (arith, length-take-le (c .before .before .before .before .before .before .before .before .args .m) (c .before .before .before .store .last .1 .0) (omega (arith, c .before .before .before .store .kept .1 .0, c .before .before .before .before .before .before .before .before .pre .1)), c .before .before .before .before .before .before .before .before .pre .1))
-
-array-share-prefix-p-2 : tie.Need-array-share-prefix-p-2
-array-share-prefix-p-2 c = search needs
-
-slice-aggregate-add-times : tie.Need-slice-aggregate-add-times
-slice-aggregate-add-times c = sym (length-take-le (c .before .before .before .before .before .before .before .before .before .before .before .before .args .m) (c .before .before .before .before .before .before .before .store .last .1 .0) (omega (arith, c .before .before .before .before .before .before .before .store .kept .1 .0, c .before .before .before .before .before .before .before .before .before .before .before .before .pre .1)))
-
-add-times-requires : tie.Need-add-times-requires
-add-times-requires c κs =
-    let start = c .before .before .before .before .before .before .before .before .before .before .before .before .before in
-    let size : length (take (start .args .m) (c .before .before .before .before .before .before .before .before .store .last .1 .0)) ≡ start .args .m = length-take-le (start .args .m) (c .before .before .before .before .before .before .before .before .store .last .1 .0) (omega (arith, c .before .before .before .before .before .before .before .before .store .kept .1 .0, start .pre .1)) in
-    let long : length (c .before .before .before .before .store2 .last .1 .0) ≡ length (start .args .s .now) = c .before .before .before .before .store2 .kept .1 .0 ∙ length-set (start .args .s .now) (start .args .at) (start .args .c) in
-    (start .pre .0, omega (arith, start .pre .1))
+linear-of-requires : tie.Need-linear-of-requires
+linear-of-requires c κs =
+    let start = c .before .before .before .before .before .before .before .before in
+    (start .pre .0, omega (arith, start .pre .1, front (c .before)))
 
 same-length : tie.Need-same-length
-same-length c =
-    let start = c .before .before .before .before .before .before .before .before .before .before .before .before .before .before .before .before .args in
-    c .before .before .add-times .kept .1 .1 .1 .1 .0 ∙ (c .before .before .before .before .before .before .before .store2 .kept .1 .0 ∙ length-set (start .s .now) (start .at) (start .c))
+same-length c = search needs
 
 returns : tie.Need-returns
 returns c =
-    let start = c .before .before .before .before .before .before .before .before .before .before .before .before .before .before .before .before in
-    lin-stored (start .args .degree) (start .pre .0 .0) (start .args .at) (start .args .m) (start .args .a) (start .args .c) (start .args .s .now) _ (omega (arith, start .pre .1)) (start .pre .1 .1) (c .before .before .before .before .before .before .before .before .before .before .before .store .ensures) (c .before .before .before .before .before .before .before .store2 .ensures) (c .before .before .add-times .ensures)
+    let start = c .before .before .before .before .before .before .before .before .before .before .before in
+    let copy = copied (start .args .at) (start .args .m) (start .args .s .now) _ (omega (arith, start .pre .1)) (omega (arith, start .pre .1)) (c .before .before .before .before .before .before .store .ensures) in
+    rw copy at (c .before .before .linear-of .ensures)
 
 pub linear-spec : {M : Type 1} → statement M
 linear-spec =
@@ -75,13 +61,8 @@ linear-spec =
     part-store-end
     slice-aggregate-store
     store-requires
-    slice-write-s
     array-share-prefix-p
-    slice-aggregate-store-2
-    add-store-2
-    store-requires-2
-    array-share-prefix-p-2
-    slice-aggregate-add-times
-    add-times-requires
+    slice-aggregate-linear-of
+    linear-of-requires
     same-length
     returns)
