@@ -5,6 +5,7 @@
 --   patch-inside, patch-below, patch-above    what stands at a place of the part, before it, behind it
 --   patch-cong                only the values that are written count
 --   patch-append              a part, and the part behind it
+--   patch-kept                a part behind which what stands there is written again
 --   patch-step                a loop's turn: one value stored behind the part
 --   patch-front               such a turn where the part is the list's front
 --   front-at                  what stands in such a part
@@ -18,7 +19,7 @@ use native.Mathlib.Numerals.{add-one}
 use native.Mathlib.Decide.{ℕ-discrete}
 use native.Mathlib.Omega.{arith}
 use lib.ListN.{length, getD, set, take, length-set}
-use lib.Seq.{getD-set-same, getD-set-other, getD-take}
+use lib.Seq.{getD-set-same, getD-set-other, getD-take, set-getD}
 use Rattle.patch.specs.Patch.{patch}
 
 module _ {A : Type 0} (at : ℕ) (f : ℕ → A) (l : List A) where
@@ -67,6 +68,16 @@ unfolding patch
 patch-append {A} at m zero f g l e = rw (add-zero m)
 patch-append {A} at m (suc n) f g l e =
     rw (add-suc m n) (rw (← add-assoc at m n) (ap₂ (λ (s : List A) (v : A). set s (at + m + n) v) (patch-append at m n f g l (λ k h. e k (omega arith))) (e n (omega arith))))
+
+pub patch-kept : {A : Type 0} (at m n : ℕ) (f : ℕ → A) (l : List A) (d : A) → ((k : ℕ) → k < n → f (m + k) ≡ getD l (at + (m + k)) d)
+    → patch at (m + n) f l ≡ patch at m f l
+unfolding patch
+patch-kept at m zero f l d e = rw (add-zero m)
+patch-kept {A} at m (suc n) f l d e =
+    let same : f (m + n) ≡ getD (patch at (m + n) f l) (at + (m + n)) d =
+    e n (omega arith) ∙ sym (patch-above at f l (m + n) (at + (m + n)) d (le-refl (at + (m + n)))) in
+    rw (add-suc m n)
+    (ap (set (patch at (m + n) f l) (at + (m + n))) same ∙ set-getD (patch at (m + n) f l) (at + (m + n)) d ∙ patch-kept at m n f l d (λ k h. e k (omega arith)))
 
 module _ {A : Type 0} (at i : ℕ) (f : ℕ → A) (l : List A) {s : List A} (is : s ≡ patch at i f l) where
   pub patch-step : {v : A} → v ≡ f i → set s (at + i) v ≡ patch at (i + 1) f l

@@ -1,5 +1,6 @@
 -- What a step makes of the slots of a line, where x is the point of the condition at hand.
 --
+--   Copied q w                w begins with q, and sixteen zeros follow
 --   mixed d ds p w at j l     line j, where p is the pivot and ds are the values at the condition at hand: if neither j is the
 --                             pivot nor its value zero, the multiple of w that takes its value away is added from slot at on
 --   valued d xs x at l        the values from slot at on, at the points xs, become those of (X + x) times the line
@@ -9,9 +10,9 @@
 --                             its part up to its width, and then it is raised
 use mathlib.Core.Path.{_≡_}
 use mathlib.Core.List.{List}
-use Prim.Native.Nat.{ℕ, _+_, _-_}
+use Prim.Native.Nat.{ℕ, _+_, _-_, _<_}
 use native.Mathlib.Decide.{ℕ-discrete}
-use lib.ListN.{length, getD, drop}
+use lib.ListN.{length, getD, take, drop}
 use Rattle.patch.specs.Patch.{patch}
 use Rattle.patch.specs.Parts.{part, lay}
 use Rattle.field.specs.Symbols.{over}
@@ -19,6 +20,10 @@ use Rattle.field.specs.Arithmetic.{gf}
 use Rattle.field.specs.Lists.{added, multiplied}
 use Rattle.poly.proofs.Forms.{lin}
 use Rattle.solver.specs.Slots.{slots, Only, Each}
+
+pub record Copied (q w : List ℕ) : Type 0 where
+  pub front : take (length q) w ≡ q
+  pub zeros : (k : ℕ) → k < 16 → getD w (length q + k) 0 ≡ 0
 
 module _ (d : ℕ) (ds : List ℕ) (p : ℕ) (w : List ℕ) (at j : ℕ) where
   unfoldable pub mixed-by : List ℕ → Dec (j ≡ p) → Dec (getD ds j 0 ≡ 0) → List ℕ

@@ -27,7 +27,8 @@ pub fn start(us: &[u8], counts: &[usize], leads: &mut [usize; 5], space: &mut [u
     *leads = [0, 1, 2, 3, 4];
 }
 
-// Takes the lines over condition i: none changes if all have the value zero there; else the pivot is mixed into the others and raised.
+// Takes the lines over condition i: none changes if all have the value zero there; else the pivot is mixed into the others and
+// raised; w is room for a copy of it.
 fn step(
     table: &[u8; LENT],
     degree: u32,
@@ -36,9 +37,10 @@ fn step(
     lines: usize,
     leads: &mut [usize; 5],
     space: &mut [u8],
+    w: &mut [u8],
 )
     requires { ⌜ (badDegree degree ≡ false) × IsTable degree (now table) × All (IsSymbol degree) (now points) ⌝ }
-    requires { ⌜ (i < length (now points)) × (length (now points) ≤ 380) × (0 < lines) × (lines ≤ 5) × (768 * lines ≤ length (now space)) ⌝ }
+    requires { ⌜ (i < length (now points)) × (length (now points) ≤ 380) × (0 < lines) × (lines ≤ 5) × (768 * lines ≤ length (now space)) × (784 ≤ length (now w)) ⌝ }
     requires { ⌜ HoldsSome degree (length (now points)) lines i (now leads) (now space) ⌝ }
     ensures { λ _. ⌜ Steps degree (now (points .entry)) lines i (now (leads .entry)) (now (space .entry)) (now (leads .exit)) (now (space .exit)) ⌝ }
 {
@@ -47,7 +49,7 @@ fn step(
     let p = scan::pivot(&ds, leads, lines);
     if p < lines {
         let width = leads[p] / lines + 1;
-        turns::turn(table, degree, points, i, lines, &ds, p, width, space);
+        turns::turn(table, degree, points, i, lines, &ds, p, width, space, w);
         leads[p] += lines;
     }
 }
@@ -66,9 +68,10 @@ pub fn run(
     requires { ⌜ HoldsSome degree (length (now points)) lines 0 (now leads) (now space) ⌝ }
     ensures { λ _. ⌜ Runs degree (now (points .entry)) lines (now (leads .entry)) (now (space .entry)) (now (leads .exit)) (now (space .exit)) ⌝ }
 {
+    let mut w = [0u8; 784];
     let mut i = 0;
     while i < points.len() {
-        step(table, degree, points, i, lines, leads, space);
+        step(table, degree, points, i, lines, leads, space, &mut w);
         i += 1;
     }
 }

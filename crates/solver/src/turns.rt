@@ -11,7 +11,7 @@ ghost use Rattle.field.specs.Tables.{IsTable};
 ghost use Rattle.field.specs.Lists.{SymbolsAt};
 ghost use Rattle.poly.specs.Poly.{All};
 ghost use Rattle.solver.specs.Slots.{slots, Only, Each};
-ghost use Rattle.solver.specs.Turns.{mixed, raised, Turned};
+ghost use Rattle.solver.specs.Turns.{Copied, mixed, raised, Turned};
 use field::lists;
 use field::tables;
 use field::tables::LENT;
@@ -77,48 +77,71 @@ fn mix_lines(
     }
 }
 
-// Adds to every other line the multiple of the pivot p that takes its value away; n slots of the pivot from slot `at` on count.
+// How many slots to take from slot `at` on: n, and more so that they are whole sixteens, if the line has them.
+fn whole(at: usize, n: usize) -> usize
+    requires { ⌜ at + n ≤ 768 ⌝ }
+    ensures { λ r. ⌜ (n ≤ r) × (r ≤ n + 16) × (at + r ≤ 768) ⌝ }
+{
+    let m = (n + 15) / 16 * 16;
+    if at + m <= 768 { m } else { n }
+}
+
+// Copies n slots of line p from slot `at` on to the front of w, with sixteen zeros behind them.
+fn copy_line(space: &[u8], p: usize, at: usize, n: usize, w: &mut [u8])
+    requires { ⌜ (at + n ≤ 768) × (768 * p + 768 ≤ length (now space)) × (784 ≤ length (now w)) ⌝ }
+    ensures { λ _. ⌜ Copied (part at n (slots p (now (space .entry)))) (now (w .exit)) ⌝ }
+{
+    rows::store(&space[768 * p + at..768 * p + at + n], w, 0);
+    rows::clear(w, n, 16);
+}
+
+// Adds to every other line the multiple of the pivot p that takes its value away; n slots of the pivot from slot `at` on count,
+// and w has a copy of them then.
 fn mix_others(
     table: &[u8; LENT],
     degree: u32,
     ds: &[u8; 5],
     p: usize,
     space: &mut [u8],
+    w: &mut [u8],
     at: usize,
     n: usize,
     lines: usize,
 )
     requires { ⌜ (badDegree degree ≡ false) × IsTable degree (now table) ⌝ }
     requires { ⌜ (p < lines) × (lines ≤ 5) × SymbolsAt degree (now ds) 0 lines × (getD (now ds) p 0 ≡ 0 → ⊥) ⌝ }
-    requires { ⌜ (at + n ≤ 768) × (768 * lines ≤ length (now space)) ⌝ }
-    ensures { λ _. ⌜ Each lines (mixed degree (now (ds .entry)) p (part at n (slots p (now (space .entry)))) at) (now (space .entry)) (now (space .exit)) ⌝ }
+    requires { ⌜ (at + n ≤ 768) × (768 * lines ≤ length (now space)) × (784 ≤ length (now w)) ⌝ }
+    ensures { λ _. ⌜ Each lines (mixed degree (now (ds .entry)) p (part at n (slots p (now (space .entry)))) at) (now (space .entry)) (now (space .exit))
+        × Copied (part at n (slots p (now (space .entry)))) (now (w .exit)) ⌝ }
 {
-    let mut w = [0u8; 768];
-    rows::store(&space[768 * p + at..768 * p + at + n], &mut w, 0);
-    mix_lines(table, degree, ds, p, &w[..n], space, at, lines);
+    copy_line(space, p, at, n, w);
+    let m = whole(at, n);
+    mix_lines(table, degree, ds, p, &w[..m], space, at, lines);
 }
 
-// Multiplies the pivot p by (X + x): its values, from slot `at` on, at the points xs, and the `width` coefficients of its locator.
+// Multiplies the pivot p by (X + x): its values, from slot `at` on, at the points xs, and its locator, of which `locator` is a copy.
 fn raise(
     table: &[u8; LENT],
     degree: u32,
     xs: &[u8],
     x: u8,
+    locator: &[u8],
     space: &mut [u8],
     p: usize,
     at: usize,
-    width: usize,
 )
     requires { ⌜ (badDegree degree ≡ false) × IsTable degree (now table) × (x < 2 ^ degree) ⌝ }
-    requires { ⌜ (at + length (now xs) + width < 768) × (width ≤ 384) × (768 * p + 768 ≤ length (now space)) ⌝ }
+    requires { ⌜ (at + length (now xs) + length (now locator) < 768) × (768 * p + 768 ≤ length (now space)) ⌝ }
     requires { ⌜ SymbolsAt degree (now xs) 0 (length (now xs)) × SymbolsAt degree (now space) (768 * p + at) (length (now xs)) ⌝ }
-    ensures { λ _. ⌜ Only p (raised degree (now (xs .entry)) x at width) (now (space .entry)) (now (space .exit)) ⌝ }
+    requires { ⌜ now locator ≡ part (768 * p + at + length (now xs)) (length (now locator)) (now space) ⌝ }
+    ensures { λ _. ⌜ Only p (raised degree (now (xs .entry)) x at (length (now (locator .entry)))) (now (space .entry)) (now (space .exit)) ⌝ }
 {
     lists::multiply(table, degree, xs, x, space, 768 * p + at, 0);
-    rows::linear(table, degree, x, 0, space, 768 * p + at + xs.len(), width);
+    rows::linear_of(table, degree, x, 0, locator, space, 768 * p + at + xs.len());
 }
 
-// Mixes the pivot p, the locator of which has at most `width` coefficients, into the other lines at condition i, and raises it.
+// Mixes the pivot p, the locator of which has at most `width` coefficients, into the other lines at condition i, and raises it;
+// w is room for a copy.
 pub(crate) fn turn(
     table: &[u8; LENT],
     degree: u32,
@@ -129,9 +152,10 @@ pub(crate) fn turn(
     p: usize,
     width: usize,
     space: &mut [u8],
+    w: &mut [u8],
 )
     requires { ⌜ (badDegree degree ≡ false) × IsTable degree (now table) × All (IsSymbol degree) (now points) ⌝ }
-    requires { ⌜ (i < length (now points)) × (length (now points) ≤ 380) × (width ≤ i + 1) × (p < lines) × (lines ≤ 5) × (768 * lines ≤ length (now space)) ⌝ }
+    requires { ⌜ (i < length (now points)) × (length (now points) ≤ 380) × (width ≤ i + 1) × (p < lines) × (lines ≤ 5) × (768 * lines ≤ length (now space)) × (784 ≤ length (now w)) ⌝ }
     requires { ⌜ SymbolsAt degree (now ds) 0 lines × (getD (now ds) p 0 ≡ 0 → ⊥) × SymbolsAt degree (now space) (768 * p + (i + 1)) (length (now points) - (i + 1)) ⌝ }
     ensures { λ _. ⌜ Turned degree (now (points .entry)) (now (ds .entry)) lines i p width (now (space .entry)) (now (space .exit)) ⌝ }
 {
@@ -141,18 +165,20 @@ pub(crate) fn turn(
         ds,
         p,
         space,
+        w,
         i + 1,
         points.len() + width - (i + 1),
         lines,
     );
+    let later = points.len() - (i + 1);
     raise(
         table,
         degree,
         &points[i + 1..],
         points[i],
+        &w[later..later + width],
         space,
         p,
         i + 1,
-        width,
     );
 }

@@ -10,21 +10,24 @@ use Rattle.solver.proofs.run.Statement.{statement}
 use Rattle.solver.proofs.run.Tie as tie
 
 abbrev Inv-loop : tie.InvT-loop
-Inv-loop table degree points lines leads₀ space₀ i₀ leads space i =
-    (i ≤ length points) × (length space ≡ length space₀) × Left degree points lines leads₀ space₀ i leads space
+Inv-loop table degree points lines leads₀ space₀ w₀ i₀ leads space w i =
+    (i ≤ length points) × (length w ≡ 784) × (length space ≡ length space₀) × Left degree points lines leads₀ space₀ i leads space
 
 abbrev μ-loop : tie.MeasureT-loop
-μ-loop table degree points lines leads₀ space₀ i₀ leads space i = length points - i
+μ-loop table degree points lines leads₀ space₀ w₀ i₀ leads space w i = length points - i
 
 loop-holds : tie.Need-loop-holds Inv-loop μ-loop
-loop-holds c = (search needs, search needs, left-all _ _ _ _ _)
+loop-holds c = (search needs, search needs, search needs, left-all _ _ _ _ _)
+
+slice-aggregate-step : tie.Need-slice-aggregate-step Inv-loop μ-loop
+slice-aggregate-step c = search needs
 
 step-requires : tie.Need-step-requires Inv-loop μ-loop
 step-requires c κs =
-    let turn = c .before .before .before in
+    let turn = c .before .before .before .before in
     let pre = turn .before .before .before .pre in
-    let (fs, held, same) = turn .loop .inv .2 (pre .1 .1 .0) (pre .1 .1 .1) in
-    (pre .0, ((c .before .before .loop-test .taken, pre .1 .0 .0, pre .1 .0 .1, pre .1 .0 .2, omega (arith, pre .1 .0, turn .loop .inv .1)), (fs, held)))
+    let (fs, held, same) = turn .loop .inv .3 (pre .1 .1 .0) (pre .1 .1 .1) in
+    (pre .0, ((c .before .before .before .loop-test .taken, pre .1 .0 .0, pre .1 .0 .1, pre .1 .0 .2, omega (arith, pre .1 .0, turn .loop .inv .2), omega (arith, turn .loop .inv .1)), (fs, held)))
 
 add-i : tie.Need-add-i Inv-loop μ-loop
 add-i c = search needs
@@ -34,16 +37,20 @@ loop-less c = search needs
 
 loop-again : tie.Need-loop-again Inv-loop μ-loop
 loop-again c =
-    let step = c .before .before .step in
-    let inv = c .before .before .before .before .before .before .loop .inv in
-    let below = c .before .before .before .before .before .loop-test .taken in
-    (omega (arith, below), step .kept .1 .1 .1 .1 .1 .1 .0 ∙ inv .1, left-turn _ _ _ _ _ _ _ _ _ _ below (inv .2) (step .ensures))
+    let step = c .before .before .before .step in
+    let inv = c .before .before .before .before .before .before .before .before .loop .inv in
+    let below = c .before .before .before .before .before .before .before .loop-test .taken in (
+      omega (arith, below),
+      step .kept .1 .1 .1 .1 .1 .1 .1 .0 ∙ inv .1,
+      step .kept .1 .1 .1 .1 .1 .1 .0 ∙ inv .2,
+      left-turn _ _ _ _ _ _ _ _ _ _ below (inv .3) (step .ensures),
+    )
 
 same-length : tie.Need-same-length Inv-loop μ-loop
 same-length c = search needs
 
 returns : tie.Need-returns Inv-loop μ-loop
-returns c = left-none _ _ _ _ _ _ _ _ (omega arith) (c .before .loop .inv .2)
+returns c = left-none _ _ _ _ _ _ _ _ (omega arith) (c .before .loop .inv .3)
 
 pub run-spec : {M : Type 1} → statement M
 run-spec =
@@ -52,6 +59,7 @@ run-spec =
     Inv-loop
     μ-loop
     loop-holds
+    slice-aggregate-step
     step-requires
     add-i
     loop-less

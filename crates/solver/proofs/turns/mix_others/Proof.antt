@@ -1,88 +1,66 @@
--- `solver::turns::mix_others` copies the pivot, and changes the lines by the copy.
+-- `solver::turns::mix_others` copies the pivot, and changes the lines by the copy and zeros behind it.
 -- Assumes nothing.
-use mathlib.Core.Path.{sym}
+use mathlib.Core.Path.{_≡_, sym}
+use Prim.Native.Nat.{_≤_}
 use native.Mathlib.Omega.{arith}
+use lib.ListN.{length, take}
 use lib.Seq.{length-take-le}
-use Rattle.solver.proofs.Mixing.{copied}
+use Rattle.patch.proofs.Parts.{length-part}
+use Rattle.solver.specs.Slots.{slots}
+use Rattle.solver.proofs.Slots.{slots-length}
+use Rattle.solver.proofs.Mixing.{each-mixed}
 use borrow.Author.Needs.{needs}
 use Rattle.solver.proofs.turns.mix_others.Statement.{statement}
 use Rattle.solver.proofs.turns.mix_others.Tie as tie
 
-mul-store : tie.Need-mul-store
-mul-store c = search needs
+copy-line-requires : tie.Need-copy-line-requires
+copy-line-requires c κs = search needs
 
-add-store : tie.Need-add-store
-add-store c = search needs
+whole-requires : tie.Need-whole-requires
+whole-requires c κs = search needs
 
-mul-store-2 : tie.Need-mul-store-2
-mul-store-2 c = search needs
+-- the copy is long enough for what is taken of it
+room : (c : tie.After-mix-lines-arg) → c .before .whole .result ≤ length (c .before .before .before .before .copy-line .last .1 .1 .1 .1 .0)
+room c =
+    let start = c .before .before .before .before .before .before .before .before .before in
+    omega (arith, c .before .whole .ensures, start .pre .1 .1, c .before .before .before .before .copy-line .kept)
 
-add-store-2 : tie.Need-add-store-2
-add-store-2 c = search needs
-
-add-store-3 : tie.Need-add-store-3
-add-store-3 c = search needs
-
-sub-store : tie.Need-sub-store
-sub-store c = search needs
-
-part-store-start : tie.Need-part-store-start
-part-store-start c = search needs
-
-part-store-end : tie.Need-part-store-end
-part-store-end c = search needs
-
-slice-aggregate-store : tie.Need-slice-aggregate-store
-slice-aggregate-store c = search needs
-
-store-requires : tie.Need-store-requires
-store-requires c κs = search needs
-
-array-share-prefix-w : tie.Need-array-share-prefix-w
-array-share-prefix-w c = search needs
+slice-reshare-prefix-mix-lines : tie.Need-slice-reshare-prefix-mix-lines
+slice-reshare-prefix-mix-lines c = search needs
 
 slice-aggregate-mix-lines : tie.Need-slice-aggregate-mix-lines
-slice-aggregate-mix-lines c =
-    let stored = c .before .before in
-    let start = stored .before .before .before .before .before in
-    sym (length-take-le (start .args .n) (stored .store .last .1 .0) (omega (arith, stored .store .kept .1 .0, start .pre .1 .1)))
+slice-aggregate-mix-lines c = sym (length-take-le (c .before .whole .result) (c .before .before .before .before .copy-line .last .1 .1 .1 .1 .0) (room c))
 
 mix-lines-requires : tie.Need-mix-lines-requires
 mix-lines-requires c κs =
-    let stored = c .before .before .before in
-    let start = stored .before .before .before .before .before in
-    let size = length-take-le (start .args .n) (stored .store .last .1 .0) (omega (arith, stored .store .kept .1 .0, start .pre .1 .1)) in
-    (start .pre .0, (start .pre .1 .0, (omega (arith, start .pre .1 .1), start .pre .1 .1 .1)))
+    let pre = c .before .before .before .before .before .before .before .before .before .before .pre in
+    let size = length-take-le (c .before .before .whole .result) (c .before .before .before .before .before .copy-line .last .1 .1 .1 .1 .0) (room (c .before)) in
+    (pre .0, (pre .1 .0, (omega (arith, c .before .before .whole .ensures), pre .1 .1 .1)))
 
 same-length : tie.Need-same-length
 same-length c = search needs
 
+same-length-2 : tie.Need-same-length-2
+same-length-2 c = search needs
+
 returns : tie.Need-returns
 returns c =
-    let mixed = c .before .before in
-    let stored = mixed .before .before .before .before in
-    let start = stored .before .before .before .before .before in
-    let copy =
-    copied (start .args .p) (start .args .at) (start .args .n) (start .args .space .now) _ (start .pre .1 .1 .0) (omega (arith, start .pre .1))
-    (omega (arith, start .pre .1)) (stored .store .ensures) in
-    rw copy at (mixed .mix-lines .ensures)
+    let start = c .before .before .before .before .before .before .before .before .before .before .before .before .before in
+    let pre = start .pre in
+    let copy = c .before .before .before .before .before .before .before .before .copy-line .ensures in
+    let taken = c .before .before .before .before .before .whole .ensures in
+    let size = length-part (start .args .at) (start .args .n) (slots (start .args .p) (start .args .space .now)) (omega (arith, pre .1, slots-length (start .args .p) (start .args .space .now) (omega (arith, pre .1)))) in
+    (each-mixed _ (pre .0 .0) _ _ copy _ (omega (arith, size, taken)) (omega (arith, size, taken)) (room (c .before .before .before .before)) _ _ _ _ _ _ (c .before .before .mix-lines .ensures), copy)
 
 pub mix-others-spec : {M : Type 1} → statement M
 mix-others-spec =
     tie.close
     (tie.spec
-    mul-store
-    add-store
-    mul-store-2
-    add-store-2
-    add-store-3
-    sub-store
-    part-store-start
-    part-store-end
-    slice-aggregate-store
-    store-requires
-    array-share-prefix-w
+    copy-line-requires
+    whole-requires
+    slice-reshare-prefix-mix-lines
     slice-aggregate-mix-lines
     mix-lines-requires
     same-length
+    same-length-2
     returns)

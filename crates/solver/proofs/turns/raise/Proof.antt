@@ -14,30 +14,30 @@ add-multiply : tie.Need-add-multiply
 add-multiply c = search needs
 
 multiply-requires : tie.Need-multiply-requires
-multiply-requires c κs = let pre = c .before .before .before .pre in
-    ((pre .0 .0, pre .0 .1, pre .0 .2, field _ (pre .0 .0) .zero-in), (omega (arith, pre .1 .0), pre .1 .1))
+multiply-requires c κs =
+    let pre = c .before .before .before .before .pre in ((pre .0 .0, pre .0 .1, pre .0 .2, field _ (pre .0 .0) .zero-in), (omega (arith, pre .1 .0), pre .1 .1 .0))
 
-mul-linear : tie.Need-mul-linear
-mul-linear c = search needs
+mul-linear-of : tie.Need-mul-linear-of
+mul-linear-of c = search needs
 
-add-linear : tie.Need-add-linear
-add-linear c = search needs
+add-linear-of : tie.Need-add-linear-of
+add-linear-of c = search needs
 
-add-linear-2 : tie.Need-add-linear-2
-add-linear-2 c = search needs
+add-linear-of-2 : tie.Need-add-linear-of-2
+add-linear-of-2 c = search needs
 
-linear-requires : tie.Need-linear-requires
-linear-requires c κs = search needs
+linear-of-requires : tie.Need-linear-of-requires
+linear-of-requires c κs =
+    let pre = c .before .before .before .before .before .before .before .before .pre in (pre .0, omega (arith, pre .1 .0, c .before .before .before .multiply .kept))
 
 same-length : tie.Need-same-length
 same-length c = search needs
 
 returns : tie.Need-returns
 returns c =
-    let located = c .before .before in
-    let valued = located .before .before .before .before in
-    let pre = valued .before .before .before .before .pre in
-    raised-only _ (pre .0 .0) _ _ _ _ _ _ (pre .1 .0 .0) (pre .1 .0 .2) (valued .multiply .ensures) (located .linear .ensures)
+    let start = c .before .before .before .before .before .before .before .before .before .before .before in
+    let pre = start .pre in
+    raised-only _ (pre .0 .0) _ _ _ _ (start .args .locator .now) _ (pre .1 .0 .0) (pre .1 .0 .1) (pre .1 .1 .1) (c .before .before .before .before .before .before .multiply .ensures) (c .before .before .linear-of .ensures)
 
 pub raise-spec : {M : Type 1} → statement M
 raise-spec =
@@ -46,9 +46,9 @@ raise-spec =
     mul-multiply
     add-multiply
     multiply-requires
-    mul-linear
-    add-linear
-    add-linear-2
-    linear-requires
+    mul-linear-of
+    add-linear-of
+    add-linear-of-2
+    linear-of-requires
     same-length
     returns)
