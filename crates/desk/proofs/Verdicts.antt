@@ -6,7 +6,6 @@
 --   counted            a turn of the count, row after row
 --   Given d xs k ys    what the code asks of a row
 --   row-fits, row-fits-not    the count of a row by its reduced values
---   left-over          these as the code has them
 -- Assumes nothing.
 use mathlib.Core.Path.{_≡_, refl, sym, ap, _∙_}
 use mathlib.Core.Logic.{_↔_, Iff·trans, Iff·symm}
@@ -17,22 +16,18 @@ use native.Mathlib.Nat.{zero-add, suc-add, add-assoc, le-refl}
 use native.Mathlib.Numerals.{add-one}
 use native.Mathlib.Omega.{arith}
 use lib.ListN.{length, getD, take, drop}
-use lib.Seq.{take-take, take-length, take-add, drop-at, drop-cons, drop-drop, length-take-le}
-use Rattle.patch.specs.Parts.{part, lay}
-use Rattle.patch.proofs.Parts.{length-lay}
+use lib.Seq.{take-take, take-length, drop-cons, drop-drop}
 use Rattle.refusal.specs.Refusal.{badDegree, someOutside}
 use Rattle.field.specs.Symbols.{IsSymbol}
 use Rattle.field.specs.Arithmetic.{gf}
 use Rattle.field.proofs.Instance.{field}
 use Rattle.poly.specs.Poly.{All}
 use Rattle.poly.proofs.Forms.{reduce}
-use Rattle.poly.proofs.Differences.{length-reduce}
 use Rattle.poly.proofs.OneOff.{row-exactly}
 use Rattle.rows.specs.Rows.{Points}
 use Rattle.mark.proofs.Parts.{all-map}
 use Rattle.mark.proofs.Proper.{lengths-test}
 use Rattle.desk.specs.Verdict.{IsRow, Misfits, none, fits, fits-not}
-use Rattle.desk.proofs.Fronts.{front-of}
 
 module _ {d : ℕ} {xs : List ℕ} where
   pub same-count : {ks a : List ℕ} {v w : ℕ} → Misfits d xs ks a v → Misfits d xs ks a w → v ≡ w
@@ -62,13 +57,6 @@ module _ {d : ℕ} {xs : List ℕ} where
       let here : Misfits d xs (getD ks l 0 ∷ []) (take (length xs) (drop start a)) u = rw all at row in
       let others : Misfits d xs (drop (suc l) ks) (drop (length xs) (drop start a)) w = rw (drop-drop (length xs) start a, ← add-one l) rest in
       rw add-assoc (so-far (u + w) (rw (drop-cons ks l 0 h) (one-more here others)))
-
-drop-take : (k m : ℕ) (l : List ℕ) → k ≤ length l → drop k (take (k + m) l) ≡ take m (drop k l)
-drop-take k m l h = rw (take-add k m l) (drop-at (take k l) (take m (drop k l)) k (length-take-le k l h))
-
-whole-part : (n : ℕ) (l : List ℕ) → part 0 n l ≡ take n l
-unfolding part
-whole-part n l = refl
 
 all-zero : (l : List ℕ) → (someOutside 0 0 l ≡ false) ↔ All (λ (a : ℕ). a ≡ 0) l
 all-zero l = Iff·trans (lengths-test 0 0 l) (
@@ -101,16 +89,3 @@ module _ {d : ℕ} {xs : List ℕ} {k : ℕ} {ys : List ℕ} (g : Given d xs k y
 
   pub row-fits-not : someOutside 0 0 left ≡ true → Misfits d xs (k ∷ []) ys 1
   row-fits-not e = fits-not {k = k} {a = ys} (rw whole (λ r. true≢false (sym e ∙ is-row .0 r))) none
-
-  pub left-over : (z : List ℕ) {s t : List ℕ} → length xs ≤ length z → s ≡ lay 0 ys z
-      → t ≡ lay 0 (reduce (gf d) k xs (part 0 (length xs) s)) s → take (length xs - k) (drop k t) ≡ left
-  left-over z {s} {t} room one two =
-      let n : ℕ = length xs in
-      let us : List ℕ = reduce (gf d) k xs ys in
-      let long : length s ≡ length z = rw one (length-lay 0 ys z) in
-      let row : part 0 n s ≡ ys = whole-part n s ∙ front-of n ys z one (g .count) room in
-      let count : length us ≡ n = length-reduce (gf d) (field d (g .degree)) k xs ys (g .count) in
-      let is : t ≡ lay 0 us s = two ∙ rw row refl in
-      let front : take n t ≡ us = front-of n us s is count (omega arith) in
-      let all : k + (n - k) ≡ n = omega (arith, g .length-in) in
-      sym (drop-take k (n - k) t (rw is (rw length-lay (omega (arith, g .length-in))))) ∙ rw (all, front) refl

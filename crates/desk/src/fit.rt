@@ -25,9 +25,9 @@ fn misfit(table: &[u8; LENT], degree: u32, points: &[u8], k: usize, ws: &[u8], r
     ensures { λ r. ⌜ Misfits degree (now (points .entry)) (k ∷ []) (now (row .entry)) r ⌝ }
 {
     let n = points.len();
-    let mut s = [0u8; 16];
+    let mut s = [0u8; 32];
     rows::store(row, &mut s, 0);
-    rows::lent::reduce(table, degree, points, k, ws, &mut s, 0);
+    rows::lent::reduce(table, degree, points, k, ws, &mut s);
     let nonzero = refusal::some_outside(0, 0, &s[k..n]);
     if nonzero { 1 } else { 0 }
 }

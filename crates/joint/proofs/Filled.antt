@@ -14,8 +14,8 @@ use native.Mathlib.Nat.{suc-mul, zero-mul}
 use native.Mathlib.Omega.{arith}
 use lib.ListN.{length, getD, take, drop, length-append, length-map}
 use lib.Seq.{drop-drop, length-take-le, take-take}
-use Rattle.patch.specs.Parts.{part, lay}
-use Rattle.patch.proofs.Parts.{length-lay, behind}
+use Rattle.patch.specs.Parts.{lay}
+use Rattle.patch.proofs.Parts.{behind}
 use Rattle.field.specs.Symbols.{IsSymbol}
 use Rattle.field.specs.Arithmetic.{gf}
 use Rattle.field.proofs.Laws.{Field}
@@ -75,20 +75,15 @@ module _ (d : ℕ) where
   coefficients gs fs ys = reduce (gf d) (length gs) gs (take (length gs) (right fs ys))
 
   -- a row gathered, reduced, evaluated and merged, as the code stores it
-  module _ (gs ws fs ms ys : List ℕ) (z : List ℕ) {us us′ : List ℕ} (gathered : us ≡ lay 0 (right fs ys) z)
-      (reduced : us′ ≡ lay 0 (reduce (gf d) (length gs) gs (part 0 (length gs) us)) us)
+  module _ (gs ws fs ms ys : List ℕ) (z us′ : List ℕ) {us : List ℕ} (gathered : us ≡ lay 0 (right fs ys) z)
+      (reduced : take (length gs) us′ ≡ reduce (gf d) (length gs) gs (take (length gs) us))
       (few : length gs ≤ length (right fs ys)) (fits : length (right fs ys) ≤ length z)
     where
       first-right : take (length gs) us ≡ take (length gs) (right fs ys)
       first-right = sym (take-take (length gs) (length (right fs ys)) us few) ∙ ap (take (length gs)) (front (right fs ys) z gathered refl fits)
 
-      pub newton : Field (gf d) → take (length gs) us′ ≡ coefficients gs fs ys
-      unfolding part
-      newton 𝓕 =
-          let long : length us ≡ length z = ap length gathered ∙ length-lay 0 (right fs ys) z in
-          let size : length (coefficients gs fs ys) ≡ length gs =
-          length-reduce (gf d) 𝓕 (length gs) gs (take (length gs) (right fs ys)) (length-take-le (length gs) (right fs ys) few) in
-          front (coefficients gs fs ys) us (reduced ∙ ap (λ (r : List ℕ). lay 0 (reduce (gf d) (length gs) gs r) us) first-right) size (omega arith)
+      pub newton : take (length gs) us′ ≡ coefficients gs fs ys
+      newton = reduced ∙ ap (reduce (gf d) (length gs) gs) first-right
 
       pub row-filled : Field (gf d) → (z′ : List ℕ) {vs : List ℕ}
           → vs ≡ lay 0 (map (newtonValue (gf d) (length (take (length gs) us′)) gs (take (length gs) us′)) ws) z′ → length ws ≤ length z′
@@ -98,7 +93,7 @@ module _ (d : ℕ) where
           let value : ℕ → ℕ = newtonValue (gf d) (length gs) gs (coefficients gs fs ys) in
           let size : length (coefficients gs fs ys) ≡ length gs =
           length-reduce (gf d) 𝓕 (length gs) gs (take (length gs) (right fs ys)) (length-take-le (length gs) (right fs ys) few) in
-          let same : map (newtonValue (gf d) (length (take (length gs) us′)) gs (take (length gs) us′)) ws ≡ map value ws = rw (newton 𝓕, size) in
+          let same : map (newtonValue (gf d) (length (take (length gs) us′)) gs (take (length gs) us′)) ws ≡ map value ws = rw (newton, size) in
           ap (λ (v : List ℕ). put ms v ys) (front (map value ws) z′ (valued ∙ ap (λ (v : List ℕ). lay 0 v z′) same) (length-map ws value) room)
 
   module _ (fs xs : List ℕ) (e : length fs ≡ length xs) where

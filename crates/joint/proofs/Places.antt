@@ -1,33 +1,25 @@
 -- Rows laid into longer lists, and read back.
 --
---   front, tail          the front of what a row was laid over; the row from entry k on
+--   front                the front of what a row was laid over
 --   copied               a list copied over one of its length
 --   RowAt n ks l from    row l, of rows with the lengths ks and n symbols each, begins at symbol from of the array
 --   next-row             the row behind a row
 --   row-room, row-left, row-size    a row has its place; what is left from it on; how long it is
 -- Assumes nothing.
-use mathlib.Core.Path.{_≡_, sym, ap, _∙_}
+use mathlib.Core.Path.{_≡_, ap, _∙_}
 use mathlib.Core.List.{List, _∷_, _++_, append-nil}
 use Prim.Native.Nat.{ℕ, _+_, _-_, _*_, _≤_, _<_}
 use native.Mathlib.Nat.{suc-mul}
 use native.Mathlib.Numerals.{add-one}
 use native.Mathlib.Omega.{arith}
 use lib.ListN.{length, getD, take, drop, length-drop, drop-of-length-le}
-use lib.Seq.{drop-cons, length-take-le, take-add, take-length, drop-at}
+use lib.Seq.{drop-cons, length-take-le, take-length}
 use Rattle.patch.specs.Parts.{part, lay}
-use Rattle.patch.proofs.Parts.{length-lay, part-lay}
+use Rattle.patch.proofs.Parts.{part-lay}
 
-module _ (v l : List ℕ) {n : ℕ} {s : List ℕ} (is : s ≡ lay 0 v l) (size : length v ≡ n) (fits : n ≤ length l) where
-  pub front : take n s ≡ v
-  unfolding part
-  front = rw (is, ← size) (part-lay 0 v l (omega arith))
-
-  pub tail : (k : ℕ) → k ≤ n → take (n - k) (drop k s) ≡ drop k v
-  tail k h =
-      let long : length s ≡ length l = ap length is ∙ length-lay 0 v l in
-      let e : k + (n - k) ≡ n = omega arith in
-      sym (drop-at (take k s) (take (n - k) (drop k s)) k (length-take-le k s (omega arith)))
-      ∙ ap (drop k) (sym (take-add k (n - k) s) ∙ ap (λ (i : ℕ). take i s) e ∙ front)
+pub front : (v l : List ℕ) {n : ℕ} {s : List ℕ} → s ≡ lay 0 v l → length v ≡ n → n ≤ length l → take n s ≡ v
+unfolding part
+front v l is size fits = rw (is, ← size) (part-lay 0 v l (omega arith))
 
 pub copied : (v l : List ℕ) {s : List ℕ} → length v ≡ length l → s ≡ take (length v) v ++ drop (length v) l → s ≡ v
 copied v l e is =

@@ -2,7 +2,6 @@
 --
 --   length-values                   there are as many values as points
 --   most-points, row-within         at most 380; each k is 1 to n
---   row-reduced                     a row, stored and reduced
 --   points-count                    those of a row, and of the rows behind it
 --   points-more, values-more        the conditions of a row, laid before those of the rows that are left
 --   points-symbols, values-symbols  they are symbols
@@ -17,15 +16,15 @@ use native.Mathlib.Omega.{arith}
 use lib.ListN.{length, getD, take, drop, length-append, length-drop, length-map}
 use lib.Seq.{drop-drop, ext-getD, length-take-le}
 use Rattle.patch.specs.Patch.{patch}
-use Rattle.patch.specs.Parts.{part, lay}
+use Rattle.patch.specs.Parts.{lay}
 use Rattle.patch.proofs.Laws.{length-patch, front-at}
-use Rattle.patch.proofs.Parts.{length-lay, behind}
+use Rattle.patch.proofs.Parts.{behind}
 use Rattle.field.specs.Symbols.{IsSymbol}
 use Rattle.field.specs.Arithmetic.{gf}
 use Rattle.field.proofs.Laws.{Field}
 use Rattle.poly.specs.Poly.{All}
 use Rattle.poly.proofs.Forms.{reduce}
-use Rattle.poly.proofs.Differences.{length-reduce, length-left, symbols-left}
+use Rattle.poly.proofs.Differences.{length-left, symbols-left}
 use Rattle.refusal.proofs.Laws.{each-within}
 use Rattle.mark.specs.Code.{codeOf}
 use Rattle.mark.proofs.Parts.{all-take, all-drop, all-append, row-length, rest-length}
@@ -36,7 +35,7 @@ use Rattle.basis.proofs.Lines.{Row, Condition, condition, conditions}
 use Rattle.basis.proofs.Lists.{all-left, all-right}
 use Rattle.ending.proofs.Model.{reducedRows}
 use Rattle.joint.specs.Working.{reducedPoints, reducedValues}
-use Rattle.joint.proofs.Places.{RowAt, next, front, tail, row-left, row-size}
+use Rattle.joint.proofs.Places.{RowAt, next, row-left, row-size}
 
 module _ (xs : List ℕ) where
   few-points : (ks : List ℕ) → Within 1 (length xs) ks → length xs ≤ 96 → length (reducedPoints xs ks) ≤ 95 * length ks
@@ -116,18 +115,6 @@ module _ (d : ℕ) (𝓕 : Field (gf d)) (xs : List ℕ) where
       all-append (IsSymbol d) (drop k (reduce (gf d) k xs (take n y))) (reducedValues d xs ks (drop n y))
       (symbols-left (gf d) 𝓕 k xs (take n y) (all-take (IsSymbol d) n y s))
       (values-symbols ks (drop n y) (all-drop (IsSymbol d) n y s))
-
-  -- the row stored, reduced, and read from the place behind its Newton coefficients on
-  pub row-reduced : (k : ℕ) (row z : List ℕ) {s t : List ℕ} → s ≡ lay 0 row z
-      → t ≡ lay 0 (reduce (gf d) k xs (part 0 (length xs) s)) s → length row ≡ length xs → length xs ≤ length z → k ≤ length xs
-      → take (length xs - k) (drop k t) ≡ drop k (reduce (gf d) k xs row)
-  unfolding part
-  row-reduced k row z {s} stored reduced same fits h =
-      let held : take (length xs) s ≡ row = front row z stored same fits in
-      let long : length s ≡ length z = ap length stored ∙ length-lay 0 row z in
-      let v : List ℕ = reduce (gf d) k xs (take (length xs) s) in
-      let size : length v ≡ length xs = length-reduce (gf d) 𝓕 k xs (take (length xs) s) (ap length held ∙ same) in
-      tail v s reduced size (omega arith) k h ∙ ap (λ (r : List ℕ). drop k (reduce (gf d) k xs r)) held
 
   pub values-more : (ks y : List ℕ) → length y ≡ length ks * length xs → {l from : ℕ} → RowAt (length xs) ks l from → l < length ks
       → (at : ℕ) (t : List ℕ) {s : List ℕ}

@@ -52,9 +52,9 @@ fn row_conditions(
     ensures { λ _. ⌜ (now (us .exit) ≡ lay at (drop k (reduce (gf degree) k (now (points .entry)) (now (row .entry)))) (now (us .entry)))
         × (now (xs .exit) ≡ lay at (drop k (now (points .entry))) (now (xs .entry))) ⌝ }
 {
-    let mut held = [0u8; 96];
+    let mut held = [0u8; 112];
     rows::store(row, &mut held, 0);
-    rows::lent::reduce(table, degree, points, k, ws, &mut held, 0);
+    rows::lent::reduce(table, degree, points, k, ws, &mut held);
     rows::store(&held[k..points.len()], us, at);
     rows::store(&points[k..], xs, at);
 }

@@ -51,9 +51,9 @@ fn read_row(
     ensures { λ r. ⌜ ((r ≡ true) ↔ Zero (gf degree) (drop k (reduce (gf degree) k (now (points .entry)) (now (row .entry)))))
         × (now (s .exit) ≡ lay at (fromNewton (gf degree) k (now (points .entry)) (reduce (gf degree) k (now (points .entry)) (now (row .entry)))) (now (s .entry))) ⌝ }
 {
-    let mut held = [0u8; 96];
+    let mut held = [0u8; 112];
     rows::store(row, &mut held, 0);
-    rows::lent::reduce(table, degree, points, k, ws, &mut held, 0);
+    rows::lent::reduce(table, degree, points, k, ws, &mut held);
     rows::coefficients(table, degree, points, &held[..k], s, at);
     all_zero(&held[k..row.len()])
 }

@@ -2,23 +2,25 @@
 --
 --   divisor         the difference of two points is not zero
 --   times-inverse   a product with an inverse is a quotient
---   later-symbols, inverse-symbols    what a round multiplies are symbols
+--   later-symbols, inverse-symbol, inverse-symbols    what a round multiplies are symbols
 --   round-multiplied    and it works out differences
 --   reduce-more     one round more
---   round-of-row    the same as a patch of the row
+--   round-of-row, one-more    the same as a patch of the row
 --   round-step      the same of a row that lies in a list
 --   round-symbols   after some rounds the row still has symbols
+--   take-patch, front-patch    the front of a list of which a part in it, or beyond its end, is written
+--   front-step, front-symbols    a round that may go on behind the row: the row, and that all are still symbols
 -- Assumes nothing.
 use mathlib.Core.Path.{_≡_, refl, sym, ap, _∙_}
 use mathlib.Core.Bool.{false}
 use mathlib.Core.Logic.{inl, inr}
 use mathlib.Core.List.{List, [], _∷_, _++_}
 use Prim.Native.Nat.{ℕ, zero, suc, _+_, _-_, _^_, _≤_, _<_}
-use native.Mathlib.Nat.{add-assoc, zero-add}
+use native.Mathlib.Nat.{add-assoc, add-zero, add-suc, zero-add}
 use native.Mathlib.Numerals.{add-one}
 use native.Mathlib.Omega.{arith}
-use lib.ListN.{length, getD, take, drop, length-drop}
-use lib.Seq.{getD-drop}
+use lib.ListN.{length, getD, set, take, drop, length-drop}
+use lib.Seq.{getD-drop, take-set-le, take-set-lt}
 use Rattle.patch.specs.Patch.{patch}
 use Rattle.patch.specs.Parts.{part, lay}
 use Rattle.patch.proofs.Laws.{patch-cong}
@@ -33,7 +35,7 @@ use Rattle.poly.proofs.Ring.{plus-apart, plus-zero, over-unique, times-over, on
 use Rattle.poly.proofs.Roots.{Mem, Distinct}
 use Rattle.poly.proofs.Differences.{length-apart, length-reduce, symbols-reduce}
 use Rattle.rows.specs.Rows.{Points, RoundInverses, inverse, difference}
-use Rattle.rows.proofs.Symbols.{symbol-at, symbols-part, symbols-lay}
+use Rattle.rows.proofs.Symbols.{symbol-at, symbol-patch, symbols-part, symbols-lay}
 
 mem-at : (x : ℕ) (xs : List ℕ) (i : ℕ) → i < length xs → x ≡ getD xs i 0 → Mem x xs
 mem-at x [] i h e = absurd (omega arith)
@@ -93,6 +95,13 @@ module _ (d : ℕ) (good : badDegree d ≡ false) where
       (λ i k. sym (apart-at (getD xs j 0) (getD us j 0) (drop (suc j) xs) (drop (suc j) us) i same (omega (arith, length-drop (suc j) xs)) ∙ rw (getD-drop (suc j) us i 0, getD-drop (suc j) xs i 0) (sym (difference-at xs us j i))))
       ∙ sym (lay-end (suc j) zs us (omega arith)))
 
+  -- the row of one round more, from the row of the rounds before
+  one-more : (j : ℕ) (xs us : List ℕ) {v : List ℕ} → length us ≡ length xs → j < length xs → v ≡ reduce (gf d) j xs us
+      → patch (j + 1) (length xs - (j + 1)) (difference d xs v j) v ≡ reduce (gf d) (j + 1) xs us
+  one-more j xs us {v} e h is =
+      let size : length v ≡ length xs = ap length is ∙ length-reduce (gf d) (field d good) j xs us e in
+      round-of-row j xs v size h ∙ rw (is, add-one) (sym (reduce-more j xs us e h))
+
   pub round-step : (at j : ℕ) (xs us l : List ℕ) {s t : List ℕ} → length us ≡ length xs → j < length xs → at + length xs ≤ length l
       → s ≡ lay at (reduce (gf d) j xs us) l
       → t ≡ patch (at + (j + 1)) (length xs - (j + 1)) (difference d xs (part at (length xs) s) j) s
@@ -103,7 +112,7 @@ module _ (d : ℕ) (good : badDegree d ≡ false) where
       let row : part at (length xs) s ≡ v = rw (is, ← size) (part-lay at v l (omega arith)) in
       then ∙ rw (row, is)
       (patch-lay at (j + 1) (length xs - (j + 1)) (difference d xs v j) v l (omega arith) (omega arith)
-      ∙ ap (λ (r : List ℕ). lay at r l) (round-of-row j xs v size h ∙ rw add-one (sym (reduce-more j xs us e h))))
+      ∙ ap (λ (r : List ℕ). lay at r l) (one-more j xs us e h refl))
 
   pub round-symbols : (at j : ℕ) (xs l : List ℕ) {s : List ℕ} → at + length xs ≤ length l → SymbolsAt d l at (length xs)
       → s ≡ lay at (reduce (gf d) j xs (part at (length xs) l)) l → SymbolsAt d s at (length xs)
@@ -112,18 +121,15 @@ module _ (d : ℕ) (good : badDegree d ≡ false) where
       symbols-lay d at (reduce (gf d) j xs us) l is (length-reduce (gf d) (field d good) j xs us (length-part at (length xs) l fits)) fits
       (symbols-reduce (gf d) (field d good) j xs us (symbols-part d at (length xs) l fits symbols))
 
--- a round as the code works it out, w being the inverses
-module _ (d : ℕ) (good : badDegree d ≡ false) (at j : ℕ) (xs l w : List ℕ) (h : j < length xs) (fits : at + length xs ≤ length l)
-    (points : Points d xs) (symbols : SymbolsAt d l at (length xs)) (given : RoundInverses d xs j w) where
+  pub inverse-symbol : (xs : List ℕ) (j i : ℕ) → inverse d xs j i < 2 ^ d
+  unfolding inverse
+  inverse-symbol xs j i = field d good .over-in _ _
+
+-- a round as the code works it out, w beginning with the inverses
+module _ (d : ℕ) (good : badDegree d ≡ false) (at j : ℕ) (xs l w : List ℕ) (h : j < length xs) (points : Points d xs)
+    (symbols : SymbolsAt d l at (length xs)) (each : (i : ℕ) → i < length xs - (j + 1) → getD w i 0 ≡ inverse d xs j i) where
   later : (i : ℕ) → i < length xs - (j + 1) → getD l (at + (j + 1) + i) 0 < 2 ^ d
   later i k = rw (add-assoc at (j + 1) i) (symbols (j + 1 + i) (omega arith))
-
-  pub later-symbols : SymbolsAt d l (at + (j + 1)) (length w)
-  later-symbols i k = later i (omega (arith, given .count))
-
-  pub inverse-symbols : SymbolsAt d w 0 (length w)
-  unfolding inverse
-  inverse-symbols i k = rw (zero-add i, given .each i (omega (arith, given .count))) (field d good .over-in _ _)
 
   multiplied-is : (i : ℕ) → i < length xs - (j + 1)
       → multiplied d w 0 l (at + (j + 1)) (getD l (at + j) 0) i ≡ difference d xs (part at (length xs) l) j i
@@ -133,10 +139,55 @@ module _ (d : ℕ) (good : badDegree d ≡ false) (at j : ℕ) (xs l w : List �
       let y : ℕ = plus (getD xs (j + 1 + i) 0) (getD xs j 0) in
       let u-in : u < 2 ^ d = field d good .plus-in _ _ (later i k) (symbols j h) in
       let y-in : y < 2 ^ d = field d good .plus-in _ _ (symbol-at d xs (j + 1 + i) (points .symbols) (omega arith)) (symbol-at d xs j (points .symbols) h) in
-      ap (λ (v : ℕ). times d (plus v 0) u) (given .each i k)
+      ap (λ (v : ℕ). times d (plus v 0) u) (each i k)
       ∙ times-inverse d good u y u-in y-in (divisor d good xs j (j + 1 + i) points (omega arith) (omega arith))
       ∙ rw (part-at at (length xs) l (j + 1 + i) (omega arith), part-at at (length xs) l j h, add-assoc at (j + 1) i)
 
+-- w being the inverses
+module _ (d : ℕ) (good : badDegree d ≡ false) (at j : ℕ) (xs l w : List ℕ) (h : j < length xs) (points : Points d xs)
+    (symbols : SymbolsAt d l at (length xs)) (given : RoundInverses d xs j w) where
+  pub later-symbols : SymbolsAt d l (at + (j + 1)) (length w)
+  later-symbols i k = later d good at j xs l w h points symbols (given .each) i (omega (arith, given .count))
+
+  pub inverse-symbols : SymbolsAt d w 0 (length w)
+  inverse-symbols i k = rw (zero-add i, given .each i (omega (arith, given .count))) (inverse-symbol d good xs j i)
+
   pub round-multiplied : {t : List ℕ} → t ≡ patch (at + (j + 1)) (length w) (multiplied d w 0 l (at + (j + 1)) (getD l (at + j) 0)) l
       → t ≡ patch (at + (j + 1)) (length xs - (j + 1)) (difference d xs (part at (length xs) l) j) l
-  round-multiplied then = then ∙ rw (given .count) (patch-cong (at + (j + 1)) (length xs - (j + 1)) _ _ l multiplied-is)
+  round-multiplied then =
+      then ∙ rw (given .count) (patch-cong (at + (j + 1)) (length xs - (j + 1)) _ _ l (multiplied-is d good at j xs l w h points symbols (given .each)))
+
+take-patch : (n at m : ℕ) (f : ℕ → ℕ) (l : List ℕ) → at + m ≤ n → take n (patch at m f l) ≡ patch at m f (take n l)
+unfolding patch
+take-patch n at zero f l h = refl
+take-patch n at (suc m) f l h =
+    take-set-lt n (patch at m f l) (at + m) (f m) (omega arith)
+    ∙ ap (λ (s : List ℕ). set s (at + m) (f m)) (take-patch n at m f l (omega arith))
+
+front-patch : (n at m r : ℕ) (f : ℕ → ℕ) (l : List ℕ) → n ≡ at + m → take n (patch at (m + r) f l) ≡ patch at m f (take n l)
+unfolding patch
+front-patch n at m zero f l e = rw (add-zero m) (take-patch n at m f l (omega arith))
+front-patch n at m (suc r) f l e =
+    rw (add-suc m r) (take-set-le n (patch at (m + r) f l) (at + (m + r)) (f (m + r)) (omega arith) ∙ front-patch n at m r f l e)
+
+-- a round of the row at the front of l that may go on behind it
+module _ (d : ℕ) (good : badDegree d ≡ false) (j : ℕ) (l w : List ℕ) {t : List ℕ}
+    (then : t ≡ patch (j + 1) (length w) (multiplied d w 0 l (j + 1) (getD l j 0)) l) where
+  pub front-step : (xs us : List ℕ) → length us ≡ length xs → j < length xs → length xs ≤ j + 1 + length w → Points d xs
+      → SymbolsAt d l 0 (length xs) → ((i : ℕ) → i < length xs - (j + 1) → getD w i 0 ≡ inverse d xs j i)
+      → take (length xs) l ≡ reduce (gf d) j xs us → take (length xs) t ≡ reduce (gf d) (j + 1) xs us
+  unfolding part
+  front-step xs us e h enough points symbols each is =
+      let n : ℕ = length xs in
+      let m : ℕ = n - (j + 1) in
+      let f : ℕ → ℕ = multiplied d w 0 l (j + 1) (getD l j 0) in
+      let all : length w ≡ m + (length w - m) = omega arith in
+      ap (take n) (then ∙ ap (λ (r : ℕ). patch (j + 1) r f l) all)
+      ∙ front-patch n (j + 1) m (length w - m) f l (omega arith)
+      ∙ patch-cong (j + 1) m f (difference d xs (take n l) j) (take n l) (λ i k. rw (zero-add (j + 1), zero-add j) at (multiplied-is d good 0 j xs l w h points symbols each i k))
+      ∙ one-more d good j xs us e h is
+
+  pub front-symbols : (n : ℕ) → j + 1 + length w ≤ length l → SymbolsAt d l 0 n → SymbolsAt d t 0 n
+  unfolding multiplied
+  front-symbols n fits symbols i k =
+      symbol-patch d (j + 1) (length w) _ l then fits (λ r g. field d good .times-in _ _) (0 + i) (symbols i k)

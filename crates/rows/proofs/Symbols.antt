@@ -4,14 +4,20 @@
 --   symbols-whole            a list of symbols as a part
 --   symbols-part             a part that has symbols is a list of them
 --   symbols-lay              where a list of symbols was laid there are symbols
+--   symbol-patch             a patch of symbols leaves symbols at every place
+--   symbols-zeros, symbols-held    zeros are symbols; a row of symbols that is held in an array of zeros
 -- Assumes nothing.
 use mathlib.Core.Path.{_≡_}
 use mathlib.Core.List.{List, [], _∷_}
-use Prim.Native.Nat.{ℕ, zero, suc, _+_, _^_, _≤_, _<_}
+use Prim.Native.Nat.{ℕ, zero, suc, _+_, _-_, _^_, _≤_, _<_}
 use native.Mathlib.Nat.{zero-add}
+use native.Mathlib.Decide.{decLt}
 use native.Mathlib.Omega.{arith}
-use lib.ListN.{length, getD}
+use lib.ListN.{length, getD, replicate, length-replicate}
+use lib.Pow.{pow-pos}
+use Rattle.patch.specs.Patch.{patch}
 use Rattle.patch.specs.Parts.{part, lay}
+use Rattle.patch.proofs.Laws.{patch-inside, patch-below, patch-above}
 use Rattle.patch.proofs.Parts.{length-part, part-at, lay-inside}
 use Rattle.field.specs.Symbols.{IsSymbol}
 use Rattle.field.specs.Lists.{SymbolsAt}
@@ -23,7 +29,7 @@ module _ (d : ℕ) where
   symbol-at (a ∷ l) zero s h = s .0
   symbol-at (a ∷ l) (suc i) s h = symbol-at l i (s .1) (omega arith)
 
-  symbols-by : (l : List ℕ) → ((i : ℕ) → i < length l → getD l i 0 < 2 ^ d) → All (IsSymbol d) l
+  pub symbols-by : (l : List ℕ) → ((i : ℕ) → i < length l → getD l i 0 < 2 ^ d) → All (IsSymbol d) l
   symbols-by [] h = tt
   symbols-by (a ∷ l) h = (h 0 (omega arith), symbols-by l (λ i k. h (suc i) (omega arith)))
 
@@ -38,3 +44,27 @@ module _ (d : ℕ) where
   pub symbols-lay : (at : ℕ) (v l : List ℕ) {n : ℕ} {s : List ℕ} → s ≡ lay at v l → length v ≡ n → at + n ≤ length l
       → All (IsSymbol d) v → SymbolsAt d s at n
   symbols-lay at v l is e fits a k h = rw (is, lay-inside at v l k (omega arith) (omega arith)) (symbol-at v k a (omega arith))
+
+  pub symbol-patch : (at n : ℕ) (f : ℕ → ℕ) (l : List ℕ) {s : List ℕ} → s ≡ patch at n f l → at + n ≤ length l
+      → ((k : ℕ) → k < n → f k < 2 ^ d) → (i : ℕ) → getD l i 0 < 2 ^ d → getD s i 0 < 2 ^ d
+  symbol-patch at n f l {s} is fits each i here = rw is (by (decLt i at) (decLt i (at + n)))
+    where
+      by : Dec (i < at) → Dec (i < at + n) → getD (patch at n f l) i 0 < 2 ^ d
+      by (yes h) g = rw (patch-below at f l n i 0 h) here
+      by (no h) (yes g) =
+          let e : at + (i - at) ≡ i = omega arith in
+          rw (← e, patch-inside at f l n (i - at) 0 (omega arith) fits) (each (i - at) (omega arith))
+      by (no h) (no g) = rw (patch-above at f l n i 0 (omega arith)) here
+
+  pub symbols-zeros : (n : ℕ) → All (IsSymbol d) (replicate n 0)
+  symbols-zeros zero = tt
+  symbols-zeros (suc n) = (pow-pos d, symbols-zeros n)
+
+  pub symbols-held : (v : List ℕ) (n : ℕ) {m : ℕ} {s : List ℕ} → s ≡ lay 0 v (replicate n 0) → length v ≤ n → m ≤ n → All (IsSymbol d) v
+      → SymbolsAt d s 0 m
+  unfolding lay
+  symbols-held v n is fits most a k h =
+      let zeros : List ℕ = replicate n 0 in
+      let size : length zeros ≡ n = length-replicate n 0 in
+      symbol-patch 0 (length v) (λ i. getD v i 0) zeros is (omega arith) (λ i g. symbol-at v i a g) (0 + k)
+      (symbol-at zeros (0 + k) (symbols-zeros n) (omega arith))

@@ -4,7 +4,7 @@
 --   inverse d xs j i       1/(x − x_j), x being the i-th point behind the j-th
 --   difference d xs us j i (u − u_j)/(x − x_j), u being the entry of the row us at the point x
 --   RoundInverses d xs j w w are the inverses of round j, one for each point behind the j-th
---   Inverses d xs k ws     ws has the inverses of k rounds, those of round j from place 96·j on
+--   Inverses d xs k ws     ws are symbols, and have the inverses of k rounds, those of round j from place 96·j on
 use mathlib.Core.Path.{_≡_}
 use Prim.Native.Nat.{ℕ, _+_, _-_, _*_, _≤_, _<_}
 use mathlib.Core.List.{List}
@@ -30,4 +30,5 @@ pub record RoundInverses (d : ℕ) (xs : List ℕ) (j : ℕ) (w : List ℕ) : Ty
 
 pub record Inverses (d : ℕ) (xs : List ℕ) (k : ℕ) (ws : List ℕ) : Type 0 where
   pub room : 96 * k ≤ length ws
+  pub symbols : All (IsSymbol d) ws
   pub each : (j i : ℕ) → j < k → i < length xs - (j + 1) → getD ws (96 * j + i) 0 ≡ inverse d xs j i

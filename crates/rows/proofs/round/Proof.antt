@@ -29,8 +29,8 @@ multiply-requires c κs =
       (
         omega (arith, row, p .1 .1 .count),
         (
-          inverse-symbols (a .degree) (p .0 .0) (a .at) (a .j) (a .points .now) (a .s .now) (a .w .now) (row .0) (row .1) (p .0 .2) (row .2) (p .1 .1),
-          later-symbols (a .degree) (p .0 .0) (a .at) (a .j) (a .points .now) (a .s .now) (a .w .now) (row .0) (row .1) (p .0 .2) (row .2) (p .1 .1),
+          inverse-symbols (a .degree) (p .0 .0) (a .at) (a .j) (a .points .now) (a .s .now) (a .w .now) (row .0) (p .0 .2) (row .2) (p .1 .1),
+          later-symbols (a .degree) (p .0 .0) (a .at) (a .j) (a .points .now) (a .s .now) (a .w .now) (row .0) (p .0 .2) (row .2) (p .1 .1),
         ),
       ),
     )
@@ -44,7 +44,7 @@ returns c =
     let a = start .args in
     let p = start .pre in
     let row = p .1 .0 in
-    round-multiplied (a .degree) (p .0 .0) (a .at) (a .j) (a .points .now) (a .s .now) (a .w .now) (row .0) (row .1) (p .0 .2) (row .2) (p .1 .1) (c .before .before .multiply .ensures)
+    round-multiplied (a .degree) (p .0 .0) (a .at) (a .j) (a .points .now) (a .s .now) (a .w .now) (row .0) (p .0 .2) (row .2) (p .1 .1) (c .before .before .multiply .ensures)
 
 pub round-spec : {M : Type 1} → statement M
 round-spec =

@@ -1,13 +1,14 @@
 -- `fit::misfit` reduces a copy of the row, and the row fits where the reduced values are zero.
 -- Assumes nothing.
-use mathlib.Core.Path.{_≡_, sym, ap, _∙_}
+use mathlib.Core.Path.{_≡_, refl, sym, ap, _∙_}
 use native.Mathlib.Omega.{arith}
-use lib.ListN.{drop}
+use lib.ListN.{drop, replicate}
 use Rattle.refusal.specs.Refusal.{someOutside}
 use Rattle.field.specs.Arithmetic.{gf}
 use Rattle.poly.proofs.Forms.{reduce}
-use Rattle.rows.proofs.Symbols.{symbols-lay}
-use Rattle.desk.proofs.Verdicts.{Given, left-over, row-fits, row-fits-not}
+use Rattle.rows.proofs.Symbols.{symbols-held}
+use Rattle.mark.proofs.Held.{held-rest}
+use Rattle.desk.proofs.Verdicts.{Given, row-fits, row-fits-not}
 use borrow.Author.Needs.{needs}
 use Rattle.desk.proofs.fit.misfit.Statement.{statement}
 use Rattle.desk.proofs.fit.misfit.Tie as tie
@@ -29,7 +30,7 @@ reduce-requires c κs =
       (
         (p .1 .0 .0, omega (arith, p .1 .0 .1), omega (arith, p .1 .0 .1, c .before .before .store .kept .1 .0)),
         (
-          symbols-lay (start .args .degree) 0 (start .args .row .now) _ (c .before .before .store .ensures) (p .1 .0 .2) (omega (arith, p .1 .0 .1)) (p .1 .1 .0),
+          symbols-held (start .args .degree) (start .args .row .now) 32 (c .before .before .store .ensures) (omega (arith, p .1 .0)) (omega (arith, p .1 .0 .1)) (p .1 .1 .0),
           p .1 .1 .1,
         ),
       ),
@@ -62,7 +63,7 @@ module _ (c : tie.After-some-outside) where
   nonzero =
       let stored = c .before .before .before .before .before .before .before .store .ensures in
       c .some-outside .ensures
-      ∙ ap (someOutside 0 0) (left-over given _ (omega (arith, start .pre .1 .0 .1)) stored (c .before .before .before .before .reduce .ensures))
+      ∙ ap (someOutside 0 0) (held-rest (start .args .degree) (start .args .k) (start .args .points .now) (start .args .row .now) (replicate 32 0) _ (given .count) (omega (arith, start .pre .1 .0 .1)) stored (c .before .before .before .before .reduce .ensures) refl)
 
 returns : tie.Need-returns
 returns c = row-fits-not (given (c .before)) (sym (nonzero (c .before)) ∙ c .if1 .taken)

@@ -2,6 +2,7 @@
 -- Assumes nothing.
 use native.Mathlib.Omega.{arith}
 use lib.ListN.{length}
+use Rattle.rows.proofs.Symbols.{symbols-zeros}
 use Rattle.mark.proofs.Passed.{largest-most}
 use borrow.Author.Needs.{needs}
 use Rattle.desk.proofs.fit.misfits.Statement.{statement}
@@ -21,7 +22,7 @@ all-inverses-requires c κs =
     let most = largest-most (length (start .args .points .now)) (start .args .lengths .now) (code .lengths) in
     let k = c .before .largest .ensures in (
       (p .0 .0, p .0 .1, record { symbols = code .symbols; distinct = code .distinct }),
-      (omega (arith, most, k), omega (arith, p .1 .0), omega (arith, most, k, p .1 .0)),
+      ((omega (arith, most, k), omega (arith, p .1 .0), omega (arith, most, k, p .1 .0)), symbols-zeros (start .args .degree) 1536),
     )
 
 slice-aggregate-rows-misfits : tie.Need-slice-aggregate-rows-misfits

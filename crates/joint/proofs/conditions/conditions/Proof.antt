@@ -2,6 +2,7 @@
 -- Assumes nothing.
 use native.Mathlib.Omega.{arith}
 use lib.ListN.{length}
+use Rattle.rows.proofs.Symbols.{symbols-zeros}
 use Rattle.mark.proofs.Passed.{largest-most}
 use borrow.Author.Needs.{needs}
 use Rattle.joint.proofs.conditions.conditions.Statement.{statement}
@@ -20,7 +21,7 @@ all-inverses-requires c κs =
     let most = largest-most (length (start .args .points .now)) (start .args .lengths .now) (p .0 .1 .lengths) in
     let k = c .before .largest .ensures in (
       (p .0 .0 .degree, p .1 .0 .1, record { symbols = p .0 .1 .symbols; distinct = p .0 .1 .distinct }),
-      (omega (arith, most, k), p .0 .0 .most-columns, omega (arith, most, k, p .0 .0 .most-columns)),
+      ((omega (arith, most, k), p .0 .0 .most-columns, omega (arith, most, k, p .0 .0 .most-columns)), symbols-zeros (start .args .degree) 9216),
     )
 
 slice-aggregate-rows-conditions : tie.Need-slice-aggregate-rows-conditions

@@ -1,15 +1,14 @@
 -- `conditions::row_conditions` reduces the row in an array of its own, and stores what is left behind the Newton coefficients.
 -- Assumes nothing.
-use mathlib.Core.Path.{ap, _∙_}
+use mathlib.Core.Path.{refl, ap, _∙_}
 use mathlib.Core.List.{List}
 use Prim.Native.Nat.{ℕ, _-_}
 use native.Mathlib.Omega.{arith}
 use lib.ListN.{length, drop, replicate, length-drop}
 use lib.Seq.{take-all}
 use Rattle.patch.specs.Parts.{lay}
-use Rattle.field.proofs.Instance.{field}
-use Rattle.rows.proofs.Symbols.{symbols-lay}
-use Rattle.joint.proofs.Reduced.{row-reduced}
+use Rattle.rows.proofs.Symbols.{symbols-held}
+use Rattle.mark.proofs.Held.{held-rest}
 use borrow.Author.Needs.{needs}
 use Rattle.joint.proofs.conditions.row_conditions.Statement.{statement}
 use Rattle.joint.proofs.conditions.row_conditions.Tie as tie
@@ -26,7 +25,7 @@ slice-aggregate-reduce c = search needs
 reduce-requires : tie.Need-reduce-requires
 reduce-requires c κs = let start = c .before .before .before .before .before .before .before .before .before in
     let p = start .pre in
-    (p .0, ((p .1 .0 .0, p .1 .0 .1, omega (arith, p .1 .0 .1, c .before .before .store .kept .1 .0)), (symbols-lay (start .args .degree) 0 (start .args .row .now) (replicate 96 0) (c .before .before .store .ensures) (p .1 .0 .2) (omega (arith, p .1 .0 .1)) (p .1 .0 .3), p .1 .1 .2)))
+    (p .0, ((p .1 .0 .0, p .1 .0 .1, omega (arith, p .1 .0 .1, c .before .before .store .kept .1 .0)), (symbols-held (start .args .degree) (start .args .row .now) 112 (c .before .before .store .ensures) (omega (arith, p .1 .0 .1, p .1 .0 .2)) (omega (arith, p .1 .0 .1)) (p .1 .0 .3), p .1 .1 .2)))
 
 sub-store : tie.Need-sub-store
 sub-store c = search needs
@@ -61,7 +60,7 @@ same-length-2 c = search needs
 returns : tie.Need-returns
 returns c = let start = c .before .before .before .before .before .before .before .before .before .before .before .before .before .before .before .before .before .before .before .before .before .before in
     let p = start .pre in
-    let left = row-reduced (start .args .degree) (field (start .args .degree) (p .0 .0)) (start .args .points .now) (start .args .k) (start .args .row .now) (replicate 96 0) (c .before .before .before .before .before .before .before .before .before .before .before .before .before .before .before .store .ensures) (c .before .before .before .before .before .before .before .before .before .before .before .before .reduce .ensures) (p .1 .0 .2) (omega (arith, p .1 .0 .1)) (p .1 .0 .0) in
+    let left = held-rest (start .args .degree) (start .args .k) (start .args .points .now) (start .args .row .now) (replicate 112 0) _ (p .1 .0 .2) (omega (arith, p .1 .0 .1)) (c .before .before .before .before .before .before .before .before .before .before .before .before .before .before .before .store .ensures) (c .before .before .before .before .before .before .before .before .before .before .before .before .reduce .ensures) refl in
     (c .before .before .before .before .before .before .before .store2 .ensures ∙ ap (λ (v : List ℕ). lay (start .args .at) v (start .args .us .now)) left, c .before .before .store3 .ensures ∙ ap (λ (v : List ℕ). lay (start .args .at) v (start .args .xs .now)) (take-all (length (start .args .points .now) - start .args .k) (drop (start .args .k) (start .args .points .now)) (omega (arith, length-drop (start .args .k) (start .args .points .now)))))
 
 pub row-conditions-spec : {M : Type 1} → statement M

@@ -1,6 +1,6 @@
 -- `finish::fill_row` gathers the right columns, and merges the row with the values at the wrong points.
 -- Assumes nothing.
-use mathlib.Core.Path.{_≡_, refl, sym, ap, _∙_}
+use mathlib.Core.Path.{_≡_, sym, ap, _∙_}
 use mathlib.Core.List.{List}
 use Prim.Native.Nat.{ℕ, _≤_}
 use native.Mathlib.Omega.{arith}
@@ -12,7 +12,7 @@ use Rattle.field.specs.Arithmetic.{gf}
 use Rattle.field.proofs.Instance.{field}
 use Rattle.poly.proofs.Differences.{symbols-reduce}
 use Rattle.mark.proofs.Parts.{all-take}
-use Rattle.rows.proofs.Symbols.{symbols-lay}
+use Rattle.rows.proofs.Symbols.{symbols-held}
 use Rattle.ending.proofs.Model.{right}
 use Rattle.joint.proofs.Marks.{right-most, all-right}
 use Rattle.joint.proofs.Filled.{newton, row-filled}
@@ -24,11 +24,14 @@ module _ (c : tie.Start) where
   abbrev gathered : List ℕ
   gathered = right (c .args .flags .now) (c .args .row .now)
 
-  fits : length gathered ≤ 96
-  fits = omega (arith, right-most (c .args .flags .now) (c .args .row .now), c .pre .1 .0 .2)
+  most : length gathered ≤ 96
+  most = omega (arith, right-most (c .args .flags .now) (c .args .row .now), c .pre .1 .0 .2)
+
+  fits : length gathered ≤ 112
+  fits = omega (arith, most)
 
   few : length (c .args .nodes .now) ≤ 96
-  few = omega (arith, c .pre .1 .1 .0 .1, fits)
+  few = omega (arith, c .pre .1 .1 .0 .1, most)
 
 slice-aggregate-gather : tie.Need-slice-aggregate-gather
 slice-aggregate-gather c = search needs
@@ -40,13 +43,18 @@ slice-aggregate-reduce : tie.Need-slice-aggregate-reduce
 slice-aggregate-reduce c = search needs
 
 reduce-requires : tie.Need-reduce-requires
-reduce-requires c κs = let p = c .before .before .before .before .before .before .before .before .before .before .before .pre in
-    let d = c .before .before .before .before .before .before .before .before .before .before .before .args .degree in
-    let symbols = symbols-lay d 0 (gathered (c .before .before .before .before .before .before .before .before .before .before .before)) (replicate 96 0) (c .before .before .gather .ensures .1) refl (omega (arith, fits (c .before .before .before .before .before .before .before .before .before .before .before))) (all-right (IsSymbol d) (c .before .before .before .before .before .before .before .before .before .before .before .args .flags .now) (c .before .before .before .before .before .before .before .before .before .before .before .args .row .now) (p .1 .0 .3)) in (
+reduce-requires c κs =
+    let start = c .before .before .before .before .before .before .before .before .before .before .before in
+    let d = start .args .degree in
+    let p = start .pre in (
       (p .0 .0, p .0 .1, p .0 .2),
       (
-        (omega arith, few (c .before .before .before .before .before .before .before .before .before .before .before), omega (arith, few (c .before .before .before .before .before .before .before .before .before .before .before), c .before .before .gather .kept)),
-        (λ k h. symbols k (omega (arith, p .1 .1 .0 .1)), p .1 .1 .1 .2),
+        (omega arith, few start, omega (arith, few start, c .before .before .gather .kept)),
+        (
+          symbols-held d (gathered start) 112 (c .before .before .gather .ensures .1) (fits start) (omega (arith, few start))
+              (all-right (IsSymbol d) (start .args .flags .now) (start .args .row .now) (p .1 .0 .3)),
+          p .1 .1 .1 .2,
+        ),
       ),
     )
 
@@ -66,7 +74,7 @@ evaluate-requires c κs = let p = c .before .before .before .before .before .bef
     let 𝓕 = field d (p .0 .0) in
     let us = c .before .before .before .reduce .last .1 .1 .1 .1 .1 .0 in
     let size : length (take k us) ≡ k = length-take-le k us (omega (arith, few (c .before .before .before .before .before .before .before .before .before .before .before .before .before .before .before), c .before .before .before .reduce .kept, c .before .before .before .before .before .before .gather .kept)) in
-    let is = newton d (c .before .before .before .before .before .before .before .before .before .before .before .before .before .before .before .args .nodes .now) (c .before .before .before .before .before .before .before .before .before .before .before .before .before .before .before .args .wrong .now) (c .before .before .before .before .before .before .before .before .before .before .before .before .before .before .before .args .flags .now) (c .before .before .before .before .before .before .before .before .before .before .before .before .before .before .before .args .marks .now) (c .before .before .before .before .before .before .before .before .before .before .before .before .before .before .before .args .row .now) (replicate 96 0) (c .before .before .before .before .before .before .gather .ensures .1) (c .before .before .before .reduce .ensures) (p .1 .1 .0 .1) (fits (c .before .before .before .before .before .before .before .before .before .before .before .before .before .before .before)) 𝓕 in (
+    let is = newton d (c .before .before .before .before .before .before .before .before .before .before .before .before .before .before .before .args .nodes .now) (c .before .before .before .before .before .before .before .before .before .before .before .before .before .before .before .args .wrong .now) (c .before .before .before .before .before .before .before .before .before .before .before .before .before .before .before .args .flags .now) (c .before .before .before .before .before .before .before .before .before .before .before .before .before .before .before .args .marks .now) (c .before .before .before .before .before .before .before .before .before .before .before .before .before .before .before .args .row .now) (replicate 112 0) us (c .before .before .before .before .before .before .gather .ensures .1) (c .before .before .before .reduce .ensures) (p .1 .1 .0 .1) (fits (c .before .before .before .before .before .before .before .before .before .before .before .before .before .before .before)) in (
       (p .0 .0, p .0 .1),
       (
         (
@@ -98,7 +106,7 @@ returns c = let p = c .before .before .before .before .before .before .before .b
     let a = c .before .before .before .before .before .before .before .before .before .before .before .before .before .before .before .before .before .before .before .before .before .before .args in
     c .before .before .merge .ensures
     ∙ ap (λ (v : List ℕ). lay (a .at) v (a .s .now))
-    (row-filled (a .degree) (a .nodes .now) (a .wrong .now) (a .flags .now) (a .marks .now) (a .row .now) (replicate 96 0) (c .before .before .before .before .before .before .before .before .before .before .before .before .before .gather .ensures .1) (c .before .before .before .before .before .before .before .before .before .before .reduce .ensures) (p .1 .1 .0 .1) (fits (c .before .before .before .before .before .before .before .before .before .before .before .before .before .before .before .before .before .before .before .before .before .before)) (field (a .degree) (p .0 .0)) (replicate 96 0) (c .before .before .before .before .before .before .evaluate .ensures) (omega (arith, p .1 .1 .0 .2)))
+    (row-filled (a .degree) (a .nodes .now) (a .wrong .now) (a .flags .now) (a .marks .now) (a .row .now) (replicate 112 0) _ (c .before .before .before .before .before .before .before .before .before .before .before .before .before .gather .ensures .1) (c .before .before .before .before .before .before .before .before .before .before .reduce .ensures) (p .1 .1 .0 .1) (fits (c .before .before .before .before .before .before .before .before .before .before .before .before .before .before .before .before .before .before .before .before .before .before)) (field (a .degree) (p .0 .0)) (replicate 96 0) (c .before .before .before .before .before .before .evaluate .ensures) (omega (arith, p .1 .1 .0 .2)))
 
 pub fill-row-spec : {M : Type 1} → statement M
 fill-row-spec =

@@ -5,6 +5,7 @@ use Prim.Native.Nat.{ℕ, _≤_}
 use native.Mathlib.Omega.{arith}
 use lib.ListN.{length, take}
 use lib.Seq.{length-take-le}
+use Rattle.rows.proofs.Symbols.{symbols-zeros}
 use Rattle.mark.specs.Code.{largest}
 use Rattle.mark.proofs.Passed.{largest-most}
 use Rattle.joint.proofs.Filled.{longest-right, right-points}
@@ -42,7 +43,7 @@ all-inverses-requires c κs =
         p .1 .0 .1,
         rw (p .1 .1 .1 .0) (right-points (a .points .now) (a .marks .now) (a .flags .now) (p .1 .1 .0 .0) (p .1 .1 .0 .1) (record { symbols = p .0 .1 .symbols; distinct = p .0 .1 .distinct }) k),
       ),
-      (omega arith, omega (arith, most, e, p .0 .0 .most-columns), omega (arith, most, e, p .0 .0 .most-columns)),
+      ((omega arith, omega (arith, most, e, p .0 .0 .most-columns), omega (arith, most, e, p .0 .0 .most-columns)), symbols-zeros (a .degree) 9216),
     )
 
 slice-aggregate-fill-rows : tie.Need-slice-aggregate-fill-rows

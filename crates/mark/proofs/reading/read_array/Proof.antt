@@ -3,6 +3,7 @@
 use mathlib.Core.Path.{refl}
 use native.Mathlib.Omega.{arith}
 use lib.ListN.{length}
+use Rattle.rows.proofs.Symbols.{symbols-zeros}
 use Rattle.mark.specs.Code.{codeOf}
 use Rattle.mark.proofs.Passed.{Counts, counts-of, largest-most}
 use borrow.Author.Needs.{needs}
@@ -23,7 +24,7 @@ all-inverses-requires c κs =
     let most = largest-most (length (a .points .now)) (a .lengths .now) (counts .lengths) in
     let k = c .before .largest .ensures in (
       (counts .degree, start .pre .1 .1 .0, start .pre .1 .0 .0),
-      (omega (arith, most, k), counts .most-columns, omega (arith, most, k, counts .most-columns)),
+      ((omega (arith, most, k), counts .most-columns, omega (arith, most, k, counts .most-columns)), symbols-zeros (a .degree) 9216),
     )
 
 slice-aggregate-read-rows : tie.Need-slice-aggregate-read-rows

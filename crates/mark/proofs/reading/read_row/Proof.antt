@@ -2,14 +2,14 @@
 -- Assumes nothing.
 use mathlib.Core.Path.{_≡_, sym, ap, _∙_}
 use mathlib.Core.List.{List}
-use Prim.Native.Nat.{ℕ}
+use Prim.Native.Nat.{ℕ, _≤_}
 use native.Mathlib.Omega.{arith}
 use lib.ListN.{length, take, replicate}
 use lib.Seq.{length-take-le}
 use Rattle.patch.specs.Parts.{lay}
 use Rattle.field.proofs.Instance.{field}
-use Rattle.rows.proofs.Symbols.{symbols-lay}
-use Rattle.mark.proofs.Held.{reduced-front, reduced-rest}
+use Rattle.rows.proofs.Symbols.{symbols-held}
+use Rattle.mark.proofs.Held.{held-newton, held-rest}
 use borrow.Author.Needs.{needs}
 use Rattle.mark.proofs.reading.read_row.Statement.{statement}
 use Rattle.mark.proofs.reading.read_row.Tie as tie
@@ -26,13 +26,13 @@ slice-aggregate-reduce c = search needs
 reduce-requires : tie.Need-reduce-requires
 reduce-requires c κs =
     let start = c .before .before .before .before .before .before .before .before in
-    let long : length (c .before .before .store .last .1 .0) ≡ 96 = c .before .before .store .kept .1 .0 in (
+    let long : length (c .before .before .store .last .1 .0) ≡ 112 = c .before .before .store .kept .1 .0 in (
       start .pre .0,
       (
         (start .pre .1 .0 .0, start .pre .1 .0 .1, omega (arith, start .pre .1 .0 .1)),
         (
-          symbols-lay (start .args .degree) 0 (start .args .row .now) (replicate 96 0) (c .before .before .store .ensures)
-              (start .pre .1 .1 .0)
+          symbols-held (start .args .degree) (start .args .row .now) 112 (c .before .before .store .ensures)
+              (omega (arith, start .pre .1 .1 .0, start .pre .1 .0 .1))
               (omega (arith, start .pre .1 .0 .1))
               (start .pre .1 .1 .1),
           start .pre .1 .1 .2,
@@ -74,15 +74,15 @@ returns : tie.Need-returns
 returns c =
     let start = c .before .before .before .before .before .before .before .before .before .before .before .before .before .before .before .before .before .before in
     let d = start .args .degree in
-    let 𝓕 = field d (start .pre .0 .0) in
     let p = start .pre .1 in
     let stored = c .before .before .before .before .before .before .before .before .before .before .before .before .store .ensures in
     let reduced = c .before .before .before .before .before .before .before .before .before .reduce .ensures in
     let xs = start .args .points .now in
     let row = start .args .row .now in
     let k = start .args .k in
-    let rest = reduced-rest d 𝓕 k xs row (replicate 96 0) (p .1 .0) (p .0 .1) (p .0 .0) stored reduced in
-    let front = reduced-front d 𝓕 k xs row (replicate 96 0) (p .1 .0) (p .0 .1) (p .0 .0) stored reduced in (
+    let room : length xs ≤ 112 = omega (arith, p .0 .1) in
+    let rest = held-rest d k xs row (replicate 112 0) _ (p .1 .0) room stored reduced (p .1 .0) in
+    let front = held-newton d k xs row (replicate 112 0) _ (p .1 .0) room stored reduced (field d (start .pre .0 .0)) (p .0 .0) in (
       rw rest at (c .all-zero .ensures),
       c .before .before .before .before .before .coefficients .ensures
           ∙ ap (λ (v : List ℕ). lay (start .args .at) v (start .args .s .now)) front,

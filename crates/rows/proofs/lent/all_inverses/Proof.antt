@@ -17,7 +17,7 @@ abbrev μ-loop : tie.MeasureT-loop
 μ-loop table degree points k ws₀ j₀ ws j = k - j
 
 loop-holds : tie.Need-loop-holds Inv-loop μ-loop
-loop-holds c = (search needs, search needs, no-rounds _ _ _)
+loop-holds c = (search needs, search needs, no-rounds _ _ _ (c .before .before .pre .1 .1))
 
 mul-inverses : tie.Need-mul-inverses Inv-loop μ-loop
 mul-inverses c = search needs
@@ -26,7 +26,7 @@ inverses-requires : tie.Need-inverses-requires Inv-loop μ-loop
 inverses-requires c κs =
     let p = c .before .before .before .before .before .pre in
     let own = c .before .before .loop in
-    (p .0, (omega (arith, p .1, c .before .loop-test .taken), omega (arith, p .1, c .before .loop-test .taken, own .inv .1)))
+    (p .0, (omega (arith, p .1 .0, c .before .loop-test .taken), omega (arith, p .1 .0, c .before .loop-test .taken, own .inv .1)))
 
 add-j : tie.Need-add-j Inv-loop μ-loop
 add-j c = search needs
@@ -41,7 +41,7 @@ loop-again c =
     let more = c .before .before .before .before .loop-test .taken in (
       omega (arith, more),
       c .before .before .inverses .kept .1 .1 .1 .1 .0 ∙ own .inv .1,
-      more-rounds (start .args .degree) (start .args .points .now) (own .j) (own .ws) (start .pre .1 .1) (omega (arith, start .pre .1, more, own .inv .1)) (own .inv .2) (c .before .before .inverses .ensures),
+      more-rounds (start .args .degree) (start .args .points .now) (start .pre .0 .0) (own .j) (own .ws) (start .pre .1 .0 .1) (omega (arith, start .pre .1 .0, more, own .inv .1)) (own .inv .2) (c .before .before .inverses .ensures),
     )
 
 same-length : tie.Need-same-length Inv-loop μ-loop

@@ -1,66 +1,91 @@
--- `lent::reduce` does the rounds by the inverses that it is lent, one after the other.
+-- `lent::reduce` multiplies by the inverses that it is lent, one round after the other; what it does behind the row is cut off.
 -- Assumes nothing.
-use mathlib.Core.Path.{_≡_, sym}
-use Prim.Native.Nat.{ℕ, _+_, _-_, _*_, _≤_}
+use mathlib.Core.Path.{_≡_, refl}
+use mathlib.Core.List.{List}
+use Prim.Native.Nat.{ℕ, _+_, _-_, _*_, _/_, _≤_, _<_}
+use native.Mathlib.Nat.{zero-add}
 use native.Mathlib.Omega.{arith}
-use lib.ListN.{length}
-use Rattle.patch.specs.Parts.{part, lay}
-use Rattle.patch.proofs.Parts.{length-part, length-lay, lay-part}
+use lib.ListN.{length, take, drop}
+use lib.Pow.{pow-pos}
+use lib.Seq.{length-take-le}
+use Rattle.field.specs.Lists.{SymbolsAt}
 use Rattle.field.specs.Arithmetic.{gf}
 use Rattle.poly.proofs.Forms.{reduce}
-use Rattle.rows.proofs.Rounds.{round-step, round-symbols}
-use Rattle.rows.proofs.Sharing.{round-inverses}
+use Rattle.rows.proofs.Rounds.{front-step, front-symbols}
+use Rattle.rows.proofs.Sharing.{lent-length, lent-symbols, lent-inverses}
 use borrow.Author.Needs.{needs}
 use Rattle.rows.proofs.lent.reduce.Statement.{statement}
 use Rattle.rows.proofs.lent.reduce.Tie as tie
 
+-- how many symbols the blocks of round j have, as the code cuts them out
+abbrev blocks : ℕ → ℕ → ℕ
+blocks n j = 96 * j + (n - (j + 1) + 15) / 16 * 16 - 96 * j
+
+-- they are within the places of the round's inverses, reach the end of the row, and end at most 15 symbols behind it
+blocks-fit : (n j : ℕ) → j < n → n ≤ 96 → (blocks n j ≤ 96) × (n ≤ j + 1 + blocks n j) × (j + 1 + blocks n j ≤ n + 15)
+blocks-fit n j h most = (omega arith, omega arith, omega arith)
+
 abbrev Inv-loop : tie.InvT-loop
-Inv-loop table degree points k ws s₀ at j₀ s j = (j ≤ k) × (s ≡ lay at (reduce (gf degree) j points (part at (length points) s₀)) s₀)
+Inv-loop table degree points k ws s₀ j₀ s j =
+    (j ≤ k) × (length s ≡ length s₀) × SymbolsAt degree s 0 (length points + 15)
+    × (take (length points) s ≡ reduce (gf degree) j points (take (length points) s₀))
 
 abbrev μ-loop : tie.MeasureT-loop
-μ-loop table degree points k ws s₀ at j₀ s j = k - j
+μ-loop table degree points k ws s₀ j₀ s j = k - j
 
 loop-holds : tie.Need-loop-holds Inv-loop μ-loop
 unfolding reduce
-loop-holds c =
-    let start = c .before .before .before in
-    (omega arith, sym (lay-part (start .args .at) (length (start .args .points .now)) (start .args .s .now) (start .pre .1 .0 .2)))
+loop-holds c = let start = c .before .before .before in (omega arith, refl, start .pre .1 .1 .0, refl)
 
 mul-from : tie.Need-mul-from Inv-loop μ-loop
 mul-from c = search needs
 
-add-round : tie.Need-add-round Inv-loop μ-loop
-add-round c = search needs
+add-whole : tie.Need-add-whole Inv-loop μ-loop
+add-whole c = search needs
 
-sub-round : tie.Need-sub-round Inv-loop μ-loop
-sub-round c = search needs
+sub-whole : tie.Need-sub-whole Inv-loop μ-loop
+sub-whole c = search needs
 
-add-round-2 : tie.Need-add-round-2 Inv-loop μ-loop
-add-round-2 c = search needs
+add-whole-2 : tie.Need-add-whole-2 Inv-loop μ-loop
+add-whole-2 c = search needs
 
-sub-round-2 : tie.Need-sub-round-2 Inv-loop μ-loop
-sub-round-2 c = search needs
+mul-whole : tie.Need-mul-whole Inv-loop μ-loop
+mul-whole c = search needs
 
-part-round-start : tie.Need-part-round-start Inv-loop μ-loop
-part-round-start c = search needs
+slice-read-b : tie.Need-slice-read-b Inv-loop μ-loop
+slice-read-b c = search needs
 
-part-round-end : tie.Need-part-round-end Inv-loop μ-loop
-part-round-end c = let p = c .before .before .before .before .before .pre in omega (arith, p .1 .0, p .1 .1 .1 .room, c .loop-test .taken)
+add-multiply : tie.Need-add-multiply Inv-loop μ-loop
+add-multiply c = search needs
 
-round-requires : tie.Need-round-requires Inv-loop μ-loop
-round-requires c κs =
-    let start = c .before .before .before .before .before .before .before in
-    let turn = c .before .before .before .loop in
+sub-multiply : tie.Need-sub-multiply Inv-loop μ-loop
+sub-multiply c = search needs
+
+part-multiply-start : tie.Need-part-multiply-start Inv-loop μ-loop
+part-multiply-start c = search needs
+
+part-multiply-end : tie.Need-part-multiply-end Inv-loop μ-loop
+part-multiply-end c = search needs
+
+add-multiply-2 : tie.Need-add-multiply-2 Inv-loop μ-loop
+add-multiply-2 c = search needs
+
+multiply-requires : tie.Need-multiply-requires Inv-loop μ-loop
+multiply-requires c κs =
+    let start = c .before .before .before .before .before .before .before .before in
+    let turn = c .before .before .before .before .loop in
+    let more = c .before .before .before .loop-test .taken in
     let d = start .args .degree in
-    let p = start .pre in
     let xs = start .args .points .now in
-    let l = start .args .s .now in
-    let more = c .before .before .loop-test .taken in
-    let rest : 96 * turn .j + (length xs - (turn .j + 1)) - 96 * turn .j ≡ length xs - (turn .j + 1) = omega arith in (
-      p .0,
+    let p = start .pre in
+    let j = turn .j in
+    let all = p .1 .1 .1 in
+    let b = blocks-fit (length xs) j (omega (arith, more, p .1 .0 .0)) (p .1 .0 .1) in
+    let size = lent-length d xs all j _ more (b .0) in (
+      (p .0 .0, p .0 .1, pow-pos d, rw zero-add at (turn .inv .2 j (omega (arith, more, p .1 .0 .0)))),
       (
-        (omega (arith, more, p .1 .0), rw (turn .inv .1, length-lay) (p .1 .0 .2), round-symbols d (p .0 .0) (start .args .at) (turn .j) xs l (p .1 .0 .2) (p .1 .1 .0) (turn .inv .1)),
-        round-inverses d xs (p .1 .1 .1) (turn .j) _ more (p .1 .0 .1) rest,
+        omega (arith, size, b .2, p .1 .0 .2, turn .inv .1),
+        (lent-symbols d xs all j _ more (b .0), λ i h. rw zero-add at (turn .inv .2 (j + 1 + i) (omega (arith, size, b .2)))),
       ),
     )
 
@@ -72,25 +97,38 @@ loop-less c = search needs
 
 loop-again : tie.Need-loop-again Inv-loop μ-loop
 loop-again c =
-    let start = c .before .before .before .before .before .before .before .before .before .before in
-    let turn = c .before .before .before .before .before .before .loop in
-    let p = start .pre in
+    let start = c .before .before .before .before .before .before .before .before .before .before .before in
+    let turn = c .before .before .before .before .before .before .before .loop in
+    let more = c .before .before .before .before .before .before .loop-test .taken in
+    let d = start .args .degree in
     let xs = start .args .points .now in
-    let l = start .args .s .now in
+    let p = start .pre in
+    let j = turn .j in
+    let all = p .1 .1 .1 in
     let n : ℕ = length xs in
-    let size : length (part (start .args .at) n l) ≡ n = length-part (start .args .at) n l (p .1 .0 .2) in
-    let more = c .before .before .before .before .before .loop-test .taken in (
+    let b = blocks-fit n j (omega (arith, more, p .1 .0 .0)) (p .1 .0 .1) in
+    let size = lent-length d xs all j _ more (b .0) in
+    let w : List ℕ = take (blocks n j) (drop (96 * j) (start .args .ws .now)) in
+    let then = c .before .before .multiply .ensures in (
       omega (arith, more),
-      round-step (start .args .degree) (p .0 .0) (start .args .at) (turn .j) xs (part (start .args .at) n l) l size (omega (arith, more, p .1 .0)) (p .1 .0 .2) (turn .inv .1) (c .before .before .round .ensures),
+      search needs,
+      front-symbols d (p .0 .0) j (turn .s) w then (n + 15) (omega (arith, size, b .2, p .1 .0 .2, turn .inv .1)) (turn .inv .2),
+      front-step d (p .0 .0) j (turn .s) w then xs (take n (start .args .s .now)) (length-take-le n (start .args .s .now) (omega (arith, p .1 .0 .2)))
+          (omega (arith, more, p .1 .0 .0))
+          (omega (arith, size, b .1))
+          (p .0 .2)
+          (λ i h. turn .inv .2 i (omega arith))
+          (lent-inverses d xs all j _ more (b .0) (b .1))
+          (turn .inv .3),
     )
 
 same-length : tie.Need-same-length Inv-loop μ-loop
-same-length c = rw (c .before .loop .inv .1) (length-lay _ _ _)
+same-length c = search needs
 
 returns : tie.Need-returns Inv-loop μ-loop
 returns c =
     let whole : c .before .loop .j ≡ c .before .before .before .before .before .args .k = omega (arith, c .loop-test .left) in
-    rw (← whole) (c .before .loop .inv .1)
+    rw (← whole) (c .before .loop .inv .3)
 
 pub reduce-spec : {M : Type 1} → statement M
 reduce-spec =
@@ -100,13 +138,17 @@ reduce-spec =
     μ-loop
     loop-holds
     mul-from
-    add-round
-    sub-round
-    add-round-2
-    sub-round-2
-    part-round-start
-    part-round-end
-    round-requires
+    add-whole
+    sub-whole
+    add-whole-2
+    mul-whole
+    slice-read-b
+    add-multiply
+    sub-multiply
+    part-multiply-start
+    part-multiply-end
+    add-multiply-2
+    multiply-requires
     add-j
     loop-less
     loop-again
