@@ -29,7 +29,7 @@ pub fn all_inverses(table: &[u8; LENT], degree: u32, points: &[u8], k: usize, ws
 }
 
 // For the crates above: k rounds of divided differences of the row at the front of s, by lent inverses. A round takes whole
-// blocks of sixteen, so that up to 15 symbols behind the row change too.
+// sixteens, so that up to 15 symbols behind the row change too.
 pub fn reduce(table: &[u8; LENT], degree: u32, points: &[u8], k: usize, ws: &[u8], s: &mut [u8])
     requires { ⌜ (badDegree degree ≡ false) × IsTable degree (now table) × Points degree (now points) ⌝ }
     requires { ⌜ (k ≤ length (now points)) × (length (now points) ≤ 96) × (length (now points) + 15 ≤ length (now s)) ⌝ }
@@ -41,7 +41,7 @@ pub fn reduce(table: &[u8; LENT], degree: u32, points: &[u8], k: usize, ws: &[u8
         let from = 96 * j;
         let whole = (points.len() - (j + 1) + 15) / 16 * 16;
         let b = s[j];
-        lists::multiply(table, degree, &ws[from..from + whole], 0, s, j + 1, b);
+        lists::multiply_sixteens(table, degree, &ws[from..from + whole], 0, s, j + 1, b);
         j += 1;
     }
 }

@@ -17,13 +17,13 @@ use borrow.Author.Needs.{needs}
 use Rattle.rows.proofs.lent.reduce.Statement.{statement}
 use Rattle.rows.proofs.lent.reduce.Tie as tie
 
--- how many symbols the blocks of round j have, as the code cuts them out
-abbrev blocks : ℕ → ℕ → ℕ
-blocks n j = 96 * j + (n - (j + 1) + 15) / 16 * 16 - 96 * j
+-- how many symbols the sixteens of round j have, as the code cuts them out
+abbrev sixteens : ℕ → ℕ → ℕ
+sixteens n j = 96 * j + (n - (j + 1) + 15) / 16 * 16 - 96 * j
 
 -- they are within the places of the round's inverses, reach the end of the row, and end at most 15 symbols behind it
-blocks-fit : (n j : ℕ) → j < n → n ≤ 96 → (blocks n j ≤ 96) × (n ≤ j + 1 + blocks n j) × (j + 1 + blocks n j ≤ n + 15)
-blocks-fit n j h most = (omega arith, omega arith, omega arith)
+sixteens-fit : (n j : ℕ) → j < n → n ≤ 96 → (sixteens n j ≤ 96) × (n ≤ j + 1 + sixteens n j) × (j + 1 + sixteens n j ≤ n + 15)
+sixteens-fit n j h most = (omega arith, omega arith, omega arith)
 
 abbrev Inv-loop : tie.InvT-loop
 Inv-loop table degree points k ws s₀ j₀ s j =
@@ -55,23 +55,23 @@ mul-whole c = search needs
 slice-read-b : tie.Need-slice-read-b Inv-loop μ-loop
 slice-read-b c = search needs
 
-add-multiply : tie.Need-add-multiply Inv-loop μ-loop
-add-multiply c = search needs
+add-multiply-sixteens : tie.Need-add-multiply-sixteens Inv-loop μ-loop
+add-multiply-sixteens c = search needs
 
-sub-multiply : tie.Need-sub-multiply Inv-loop μ-loop
-sub-multiply c = search needs
+sub-multiply-sixteens : tie.Need-sub-multiply-sixteens Inv-loop μ-loop
+sub-multiply-sixteens c = search needs
 
-part-multiply-start : tie.Need-part-multiply-start Inv-loop μ-loop
-part-multiply-start c = search needs
+part-multiply-sixteens-start : tie.Need-part-multiply-sixteens-start Inv-loop μ-loop
+part-multiply-sixteens-start c = search needs
 
-part-multiply-end : tie.Need-part-multiply-end Inv-loop μ-loop
-part-multiply-end c = search needs
+part-multiply-sixteens-end : tie.Need-part-multiply-sixteens-end Inv-loop μ-loop
+part-multiply-sixteens-end c = search needs
 
-add-multiply-2 : tie.Need-add-multiply-2 Inv-loop μ-loop
-add-multiply-2 c = search needs
+add-multiply-sixteens-2 : tie.Need-add-multiply-sixteens-2 Inv-loop μ-loop
+add-multiply-sixteens-2 c = search needs
 
-multiply-requires : tie.Need-multiply-requires Inv-loop μ-loop
-multiply-requires c κs =
+multiply-sixteens-requires : tie.Need-multiply-sixteens-requires Inv-loop μ-loop
+multiply-sixteens-requires c κs =
     let start = c .before .before .before .before .before .before .before .before in
     let turn = c .before .before .before .before .loop in
     let more = c .before .before .before .loop-test .taken in
@@ -80,7 +80,7 @@ multiply-requires c κs =
     let p = start .pre in
     let j = turn .j in
     let all = p .1 .1 .1 in
-    let b = blocks-fit (length xs) j (omega (arith, more, p .1 .0 .0)) (p .1 .0 .1) in
+    let b = sixteens-fit (length xs) j (omega (arith, more, p .1 .0 .0)) (p .1 .0 .1) in
     let size = lent-length d xs all j _ more (b .0) in (
       (p .0 .0, p .0 .1, pow-pos d, rw zero-add at (turn .inv .2 j (omega (arith, more, p .1 .0 .0)))),
       (
@@ -106,10 +106,10 @@ loop-again c =
     let j = turn .j in
     let all = p .1 .1 .1 in
     let n : ℕ = length xs in
-    let b = blocks-fit n j (omega (arith, more, p .1 .0 .0)) (p .1 .0 .1) in
+    let b = sixteens-fit n j (omega (arith, more, p .1 .0 .0)) (p .1 .0 .1) in
     let size = lent-length d xs all j _ more (b .0) in
-    let w : List ℕ = take (blocks n j) (drop (96 * j) (start .args .ws .now)) in
-    let then = c .before .before .multiply .ensures in (
+    let w : List ℕ = take (sixteens n j) (drop (96 * j) (start .args .ws .now)) in
+    let then = c .before .before .multiply-sixteens .ensures in (
       omega (arith, more),
       search needs,
       front-symbols d (p .0 .0) j (turn .s) w then (n + 15) (omega (arith, size, b .2, p .1 .0 .2, turn .inv .1)) (turn .inv .2),
@@ -143,12 +143,12 @@ reduce-spec =
     add-whole-2
     mul-whole
     slice-read-b
-    add-multiply
-    sub-multiply
-    part-multiply-start
-    part-multiply-end
-    add-multiply-2
-    multiply-requires
+    add-multiply-sixteens
+    sub-multiply-sixteens
+    part-multiply-sixteens-start
+    part-multiply-sixteens-end
+    add-multiply-sixteens-2
+    multiply-sixteens-requires
     add-j
     loop-less
     loop-again
