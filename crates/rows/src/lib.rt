@@ -160,15 +160,23 @@ pub fn linear_of(table: &[u8; LENT], degree: u32, a: u8, c: u8, p: &[u8], s: &mu
     lists::add_times(table, degree, a, p, s, at);
 }
 
-// For the crates above: the polynomial p of m coefficients in s from `at` on becomes c + (x − a)·p.
-pub fn linear(table: &[u8; LENT], degree: u32, a: u8, c: u8, s: &mut [u8], at: usize, m: usize)
+// The polynomial p of m coefficients in s from `at` on becomes c + (x − a)·p; w is room for a copy.
+fn linear(
+    table: &[u8; LENT],
+    degree: u32,
+    a: u8,
+    c: u8,
+    s: &mut [u8],
+    at: usize,
+    m: usize,
+    w: &mut [u8],
+)
     requires { ⌜ (badDegree degree ≡ false) × IsTable degree (now table) × (a < 2 ^ degree) ⌝ }
-    requires { ⌜ (m ≤ 384) × (at + (m + 1) ≤ length (now s)) ⌝ }
+    requires { ⌜ (m ≤ length (now w)) × (at + (m + 1) ≤ length (now s)) ⌝ }
     ensures { λ _. ⌜ now (s .exit) ≡ lay at (lin (gf degree) a c (part at m (now (s .entry)))) (now (s .entry)) ⌝ }
 {
-    let mut p = [0u8; 384];
-    store(&s[at..at + m], &mut p, 0);
-    linear_of(table, degree, a, c, &p[..m], s, at);
+    store(&s[at..at + m], w, 0);
+    linear_of(table, degree, a, c, &w[..m], s, at);
 }
 
 // For the crates above: the coefficients of the polynomial with the Newton coefficients us at the nodes.
@@ -184,9 +192,19 @@ pub fn coefficients(
     requires { ⌜ (length (now us) ≤ length (now nodes)) × (length (now us) ≤ 384) × (at + length (now us) ≤ length (now s)) ⌝ }
     ensures { λ _. ⌜ now (s .exit) ≡ lay at (fromNewton (gf degree) (length (now (us .entry))) (now (nodes .entry)) (now (us .entry))) (now (s .entry)) ⌝ }
 {
+    let mut w = [0u8; 384];
     let mut j = us.len();
     while 0 < j {
-        linear(table, degree, nodes[j - 1], us[j - 1], s, at, us.len() - j);
+        linear(
+            table,
+            degree,
+            nodes[j - 1],
+            us[j - 1],
+            s,
+            at,
+            us.len() - j,
+            &mut w,
+        );
         j -= 1;
     }
 }

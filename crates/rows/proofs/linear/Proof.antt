@@ -21,34 +21,32 @@ part-store-start c = search needs
 part-store-end : tie.Need-part-store-end
 part-store-end c = search needs
 
-slice-aggregate-store : tie.Need-slice-aggregate-store
-slice-aggregate-store c = search needs
-
 store-requires : tie.Need-store-requires
 store-requires c κs = search needs
 
-array-share-prefix-p : tie.Need-array-share-prefix-p
-array-share-prefix-p c = search needs
+slice-reshare-prefix-linear-of : tie.Need-slice-reshare-prefix-linear-of
+slice-reshare-prefix-linear-of c = search needs
 
 -- the copy has all coefficients
-front : (c : tie.After-p3) → length (take (c .before .before .before .before .before .before .before .args .m) (c .before .before .store .last .1 .0)) ≡ c .before .before .before .before .before .before .before .args .m
-front c = length-take-le (c .before .before .before .before .before .before .before .args .m) (c .before .before .store .last .1 .0) (omega (arith, c .before .before .store .kept .1 .0, c .before .before .before .before .before .before .before .pre .1))
+front : (c : tie.After-linear-of-arg) → length (take (c .before .before .before .before .before .before .before .before .before .args .m) (c .before .before .before .store .last .1 .0)) ≡ c .before .before .before .before .before .before .before .before .before .args .m
+front c = length-take-le (c .before .before .before .before .before .before .before .before .before .args .m) (c .before .before .before .store .last .1 .0) (omega (arith, c .before .before .before .store .kept, c .before .before .before .before .before .before .before .before .before .pre .1))
 
 slice-aggregate-linear-of : tie.Need-slice-aggregate-linear-of
 slice-aggregate-linear-of c = sym (front c)
 
 linear-of-requires : tie.Need-linear-of-requires
-linear-of-requires c κs =
-    let start = c .before .before .before .before .before .before .before .before in
-    (start .pre .0, omega (arith, start .pre .1, front (c .before)))
+linear-of-requires c κs = let start = c .before .before .before .before .before .before .before .before .before .before in (start .pre .0, omega (arith, start .pre .1, front (c .before)))
 
 same-length : tie.Need-same-length
 same-length c = search needs
 
+same-length-2 : tie.Need-same-length-2
+same-length-2 c = search needs
+
 returns : tie.Need-returns
 returns c =
-    let start = c .before .before .before .before .before .before .before .before .before .before .before in
-    let copy = copied (start .args .at) (start .args .m) (start .args .s .now) _ (omega (arith, start .pre .1)) (omega (arith, start .pre .1)) (c .before .before .before .before .before .before .store .ensures) in
+    let start = c .before .before .before .before .before .before .before .before .before .before .before .before .before in
+    let copy = copied (start .args .at) (start .args .m) (start .args .s .now) (start .args .w .now) (start .pre .1 .0) (omega (arith, start .pre .1)) (c .before .before .before .before .before .before .before .store .ensures) in
     rw copy at (c .before .before .linear-of .ensures)
 
 pub linear-spec : {M : Type 1} → statement M
@@ -59,10 +57,10 @@ linear-spec =
     sub-store
     part-store-start
     part-store-end
-    slice-aggregate-store
     store-requires
-    array-share-prefix-p
+    slice-reshare-prefix-linear-of
     slice-aggregate-linear-of
     linear-of-requires
     same-length
+    same-length-2
     returns)
