@@ -39,7 +39,6 @@ use Rattle.poly.proofs.Roots.{Mem}
 use Rattle.mark.specs.Code.{IsMessage, total, differs, flagsFrom, safeLimit}
 use Rattle.mark.specs.Checks.{spaceBytes}
 use Rattle.mark.specs.Promises.{Left, done}
-use Rattle.mark.specs.declared.Outcome.{Outcome}
 use Rattle.mark.specs.declared.Outcome.the-variants.{Done}
 use Rattle.mark.specs.declared.Outcome.the-variants as Mark
 use Rattle.mark.proofs.Demand2.{outcome-of, buffer-of, apart}

@@ -9,9 +9,6 @@ use lib.Seq.{length-take-le}
 use borrow.Author.Needs.{needs}
 use Rattle.compared.proofs.lent.Statement.{statement}
 use Rattle.compared.proofs.lent.Tie as tie
-use Rattle.compared.proofs.count.Reads as count-reads
-use Rattle.compared.proofs.number.Reads as number-reads
-use Rattle.compared.proofs.shown.Reads as shown-reads
 
 fits : {n : ℕ} (l : List ℕ) → n ≤ length l → n ≡ length (take n l)
 fits {n} l h = sym (length-take-le n l h)

@@ -3,8 +3,6 @@
 use borrow.Author.Needs.{needs}
 use Rattle.compared.proofs.main.Statement.{statement}
 use Rattle.compared.proofs.main.Tie as tie
-use Rattle.compared.proofs.run.Reads as run-reads
-use Rattle.io.proofs.read_full.Reads as read-full-reads
 
 abbrev Inv-loop : tie.InvT-loop
 Inv-loop turns₀ turns = Unit {0}

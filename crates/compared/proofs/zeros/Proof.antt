@@ -5,7 +5,6 @@ use lib.ListN.{length}
 use borrow.Author.Needs.{needs}
 use Rattle.compared.proofs.zeros.Statement.{statement}
 use Rattle.compared.proofs.zeros.Tie as tie
-use Rattle.compared.proofs.one_if_zero.Reads as one-if-zero-reads
 
 abbrev Inv-loop : tie.InvT-loop
 Inv-loop s n₀ i₀ n i = (n ≤ i) × (i ≤ length s)

@@ -3,8 +3,6 @@ use native.Mathlib.Omega.{arith}
 use borrow.Author.Needs.{needs}
 use Rattle.firmware.proofs.pack.Statement.{statement}
 use Rattle.firmware.proofs.pack.Tie as tie
-use Rattle.firmware.proofs.pack.Reads as reads
-use Rattle.firmware.proofs.pack.Lts as lts
 
 enum-known-ending : tie.Need-enum-known-ending
 enum-known-ending c = search needs

@@ -4,7 +4,6 @@ use Prim.Native.Nat.{_-_, _≤_}
 use borrow.Author.Needs.{needs}
 use Rattle.joint_runs.proofs.one_column.Statement.{statement}
 use Rattle.joint_runs.proofs.one_column.Tie as tie
-use Rattle.joint_runs.proofs.one_symbol.Reads as one-symbol-reads
 
 abbrev Inv-loop : tie.InvT-loop
 Inv-loop symbol₀ symbol = (symbol ≤ 16)

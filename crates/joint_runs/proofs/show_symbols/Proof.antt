@@ -6,7 +6,6 @@ use lib.ListN.{length}
 use borrow.Author.Needs.{needs}
 use Rattle.joint_runs.proofs.show_symbols.Statement.{statement}
 use Rattle.joint_runs.proofs.show_symbols.Tie as tie
-use Rattle.joint_runs.proofs.number.Reads as number-reads
 
 abbrev Inv-loop : tie.InvT-loop
 Inv-loop s i₀ i = (i ≤ length s)

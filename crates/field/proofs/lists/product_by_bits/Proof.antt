@@ -1,8 +1,6 @@
 -- `field::lists::product_by_bits` is the product.
 -- Assumes nothing.
-use mathlib.Core.Path.{_≡_, refl, _∙_}
-use Prim.Native.Nat.{_-_, _^_}
-use native.Mathlib.Omega.{arith}
+use mathlib.Core.Path.{refl, _∙_}
 use lib.Pow.{pow-pos}
 use Rattle.refusal.proofs.Laws.{up-to-eight}
 use Rattle.field.specs.Combining.{Reducer}

@@ -1,6 +1,5 @@
 -- `solver::turns::copy_line` copies a part of a line, and clears what lies behind the copy.
 -- Assumes nothing.
-use native.Mathlib.Omega.{arith}
 use Rattle.solver.proofs.Mixing.{copied}
 use borrow.Author.Needs.{needs}
 use Rattle.solver.proofs.turns.copy_line.Statement.{statement}

@@ -1,9 +1,9 @@
 -- `solver::turns::mix_others` copies the pivot, and changes the lines by the copy and zeros behind it.
 -- Assumes nothing.
-use mathlib.Core.Path.{_≡_, sym}
+use mathlib.Core.Path.{sym}
 use Prim.Native.Nat.{_≤_}
 use native.Mathlib.Omega.{arith}
-use lib.ListN.{length, take}
+use lib.ListN.{length}
 use lib.Seq.{length-take-le}
 use Rattle.patch.proofs.Parts.{length-part}
 use Rattle.solver.specs.Slots.{slots}

@@ -3,7 +3,7 @@
 use mathlib.Core.Path.{_≡_}
 use Prim.Native.Nat.{_+_, _-_}
 use native.Mathlib.Omega.{arith}
-use lib.ListN.{length, take, drop, length-drop}
+use lib.ListN.{length, drop, length-drop}
 use Rattle.rows.proofs.Symbols.{symbol-at}
 use Rattle.solver.proofs.Raising.{behind-all, behind-in, between-in, locator-count, between-locator}
 use borrow.Author.Needs.{needs}
