@@ -1,5 +1,6 @@
 // The inner loops of the layers above: a constant times a part of a slice, the same added to another part, and the products
-// of two parts, symbol by symbol. Their bodies have no table to look up, so that they vectorise.
+// of two parts, symbol by symbol. Sixteens are worked out by bits, with no table to look up, so that these loops vectorise; what
+// is left over of a list goes by the table.
 ghost use mathlib.Core.Path.{_≡_};
 ghost use mathlib.Core.Bool.{false};
 ghost use Prim.Native.Nat.{ℕ, suc, _+_, _-_, _*_, _/_, _%_, _^_, _≤_, _<_};
@@ -264,7 +265,7 @@ pub fn multiply_sixteens(
     multiply_by_bits(degree, half, low, w, a, s, at, b);
 }
 
-// The same, where the list may be empty.
+// The same, where an empty list is to cost nothing.
 fn multiply_front(table: &[u8; LENT], degree: u32, w: &[u8], a: u8, s: &mut [u8], at: usize, b: u8)
     requires { ⌜ (badDegree degree ≡ false) × IsTable degree (now table) × (a < 2 ^ degree) × (b < 2 ^ degree) ⌝ }
     requires { ⌜ at + length (now w) ≤ length (now s) ⌝ }
