@@ -1,4 +1,3 @@
-pub mod Fronts
 pub mod Columns
 pub mod Sound
 pub mod Replaced

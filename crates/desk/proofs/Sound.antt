@@ -20,7 +20,7 @@ use lib.Seq.{length-take-le}
 use lib.Pow.{pow-pos}
 use borrow.Author.Tests.{eqb-true, leb-false, not-false}
 use Rattle.patch.specs.Parts.{lay}
-use Rattle.patch.proofs.Parts.{length-lay, lay-above}
+use Rattle.patch.proofs.Parts.{length-lay, lay-above, laid-front}
 use Rattle.refusal.specs.Refusal.{first, badDegree, outside, someOutside, outsideField, someOutsideField, isIn, repeated, badPoints}
 use Rattle.refusal.proofs.Laws.{within, clear}
 use Rattle.field.specs.Symbols.{IsSymbol}
@@ -32,7 +32,6 @@ use Rattle.mark.proofs.Parts.{all-take}
 use Rattle.mark.proofs.Proper.{Proper, proper, symbols-test}
 use Rattle.desk.specs.Desk.{codeOf, arrayOf, zeros, zeroDesk, spareCode, deskBy, openChecks, placed, putChecks, Made, opened, put}
 use Rattle.desk.specs.declared.Desk.{Desk}
-use Rattle.desk.proofs.Fronts.{front-of}
 use Rattle.desk.proofs.Columns.{length-column, all-column, column-other, cell}
 
 abbrev pub ZeroFrom : ℕ → List ℕ → Type 0
@@ -110,7 +109,7 @@ symbols-zeros d zero = tt
 symbols-zeros d (suc n) = (pow-pos d, symbols-zeros d n)
 
 front : (n : ℕ) (l : List ℕ) → length l ≤ n → take (length l) (lay 0 l (zeros n)) ≡ l
-front n l h = front-of (length l) l (zeros n) refl refl (omega (arith, length-zeros n))
+front n l h = laid-front l (zeros n) refl refl (omega (arith, length-zeros n))
 
 zero-behind : (n : ℕ) (l : List ℕ) → ZeroFrom (length l) (lay 0 l (zeros n))
 zero-behind n l i h = lay-above 0 l (zeros n) i (omega arith) ∙ zeros-zero n i

@@ -1,6 +1,5 @@
 -- Rows laid into longer lists, and read back.
 --
---   front                the front of what a row was laid over
 --   copied               a list copied over one of its length
 --   RowAt n ks l from    row l, of rows with the lengths ks and n symbols each, begins at symbol from of the array
 --   next-row             the row behind a row
@@ -14,12 +13,6 @@ use native.Mathlib.Numerals.{add-one}
 use native.Mathlib.Omega.{arith}
 use lib.ListN.{length, getD, take, drop, length-drop, drop-of-length-le}
 use lib.Seq.{drop-cons, length-take-le, take-length}
-use Rattle.patch.specs.Parts.{part, lay}
-use Rattle.patch.proofs.Parts.{part-lay}
-
-pub front : (v l : List ℕ) {n : ℕ} {s : List ℕ} → s ≡ lay 0 v l → length v ≡ n → n ≤ length l → take n s ≡ v
-unfolding part
-front v l is size fits = rw (is, ← size) (part-lay 0 v l (omega arith))
 
 pub copied : (v l : List ℕ) {s : List ℕ} → length v ≡ length l → s ≡ take (length v) v ++ drop (length v) l → s ≡ v
 copied v l e is =

@@ -4,7 +4,7 @@
 --   Place c l p q k     row l is at these places, and has k coefficients
 --   first-place, next-place    of the first row; of the next
 --   bounds              a row lies within the message and the array
---   lay-front, copied   what was laid, or copied, at the front is there
+--   copied              what was copied to the front is there
 --   released            what was laid at the front, copied over a whole list
 --   encoded-more        a row's values, laid before the rows that are left
 --   message-more, reduced-more    the same of the message that is read, and of the reduced values
@@ -18,8 +18,8 @@ use native.Mathlib.Numerals.{add-one}
 use native.Mathlib.Omega.{arith}
 use lib.ListN.{length, getD, take, drop, length-drop}
 use lib.Seq.{drop-cons, drop-drop, length-take-le, take-append-seam, take-length, drop-length}
-use Rattle.patch.specs.Parts.{part, lay}
-use Rattle.patch.proofs.Parts.{part-lay, behind}
+use Rattle.patch.specs.Parts.{lay}
+use Rattle.patch.proofs.Parts.{laid-front, behind}
 use Rattle.refusal.proofs.Laws.{each-within}
 use Rattle.field.specs.Arithmetic.{gf}
 use Rattle.field.proofs.Laws.{Field}
@@ -93,10 +93,6 @@ module _ {c : Code} {l p q k : ℕ} (h : Place c l p q k) where
         symbols = h .counts .cells;
       }
 
-pub lay-front : (v l : List ℕ) → length v ≤ length l → take (length v) (lay 0 v l) ≡ v
-unfolding part
-lay-front v l h = part-lay 0 v l (omega arith)
-
 pub copied : (v l : List ℕ) {s : List ℕ} → s ≡ take (length v) v ++ drop (length v) l → take (length v) s ≡ v
 copied v l e = rw (e, take-length) (take-append-seam v (drop (length v) l))
 
@@ -104,7 +100,7 @@ copied v l e = rw (e, take-length) (take-append-seam v (drop (length v) l))
 pub released : (v l old : List ℕ) {s out : List ℕ} → s ≡ lay 0 v l → length v ≡ length old → length v ≤ length l
     → out ≡ take (length (take (length old) s)) (take (length old) s) ++ drop (length (take (length old) s)) old → out ≡ v
 released v l old {s} {out} is e fits out-is =
-    let front : take (length old) s ≡ v = rw (← e, is) (lay-front v l fits) in
+    let front : take (length old) s ≡ v = laid-front v l is e (omega arith) in
     (rw front at out-is) ∙ rw (take-length, e, drop-length old) (append-nil v)
 
 module _ {c : Code} {l p q k : ℕ} (h : Place c l p q k) where

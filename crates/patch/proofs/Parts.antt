@@ -5,6 +5,7 @@
 --   lay-inside, lay-below, lay-above    what stands in the row, before it, behind it
 --   lay-none, lay-end         the empty row; a row over the end of a list
 --   lay-part, part-lay        a part laid where it was; what was laid is the part there
+--   laid-front                what was laid at the front is the front
 --   is-lay                    a list that has the row, and agrees with l outside it
 --   lay-cons                  one number, and a row behind it
 --   lay-again                 a row over a row that is not longer
@@ -172,6 +173,10 @@ lay-append at v w l fits =
         ∙ lay-inside (at + length v) w (lay at v l) (k - length v) (omega arith) (omega arith)
         ∙ sym (getD-append-add v w (k - length v) 0)
         ∙ ap (λ (i : ℕ). getD (v ++ w) i 0) e′
+
+pub laid-front : (v l : List ℕ) {n : ℕ} {s : List ℕ} → s ≡ lay 0 v l → length v ≡ n → n ≤ length l → take n s ≡ v
+unfolding part
+laid-front v l is size fits = rw (is, ← size) (part-lay 0 v l (omega arith))
 
 -- what is laid at a place, and then the rest behind it
 pub behind : (at : ℕ) (v w l : List ℕ) {n : ℕ} {s : List ℕ} → length v ≡ n → s ≡ lay at v l → at + length (v ++ w) ≤ length l

@@ -18,14 +18,13 @@ use native.Mathlib.Numerals.{add-one}
 use native.Mathlib.Omega.{arith}
 use lib.ListN.{length, take, drop, length-append, length-take}
 use Rattle.patch.specs.Parts.{part, lay}
-use Rattle.patch.proofs.Parts.{lay-none, lay-end, lay-append}
+use Rattle.patch.proofs.Parts.{lay-none, lay-end, laid-front, lay-append}
 use Rattle.field.specs.Symbols.{IsSymbol}
 use Rattle.field.specs.Arithmetic.{gf}
 use Rattle.poly.specs.Poly.{All, valuesAt}
 use Rattle.poly.proofs.Forms.{reduce, fromNewton}
 use Rattle.poly.proofs.Values.{length-values}
 use Rattle.rows.specs.Rows.{Points}
-use Rattle.mark.proofs.Rows.{lay-front}
 use Rattle.ring.specs.Ring.{numbers, sector, IsRing, column, ringOf, ArrayOf}
 use Rattle.ring.specs.Checks.{badSize}
 use Rattle.ring.proofs.Numbers.{flat-more, flat-cong, all-flat, length-flat, part-flat, part-fits, turned, length-turned, part-turned}
@@ -134,7 +133,7 @@ module _ (q : ℕ) (size : badSize q ≡ false) where
     columns-front : take (length array) c ≡ turned q (q * q) array
     columns-front =
         let e : length (turned q (q * q) array) ≡ length array = length-turned q (q * q) array ∙ sym (h .count) in
-        rw (is, count, ← e) (lay-front (turned q (q * q) array) z (omega (arith, h .count)))
+        laid-front (turned q (q * q) array) z (rw count at is) e (omega (arith, h .count))
 
     pub columns-ring : IsRing q (take (length array) c)
     columns-ring = rw columns-front (record {
@@ -156,7 +155,7 @@ module _ (q : ℕ) (size : badSize q ≡ false) where
     pub front-columns : take (length ring) c ≡ columnsOf q ring
     front-columns =
         let e : length (columnsOf q ring) ≡ length ring = columns-length q size h ∙ sym (h .count) in
-        rw (is, ← e) (lay-front (columnsOf q ring) z (omega (arith, h .count)))
+        laid-front (columnsOf q ring) z is e (omega (arith, h .count))
 
     pub array-made : (l : List ℕ) → length l ≡ q * q * q → {a : List ℕ}
         → a ≡ lay 0 (turned (n * n) n (take (length ring) c)) l → ArrayOf q ring a

@@ -19,7 +19,7 @@ use lib.Seq.{drop-cons}
 use Rattle.patch.specs.Patch.{patch}
 use Rattle.patch.specs.Parts.{part, lay}
 use Rattle.patch.proofs.Laws.{length-patch, patch-inside, patch-below, patch-above}
-use Rattle.patch.proofs.Parts.{length-lay, lay-inside, lay-below, lay-above, lay-none, lay-cons, lay-again, length-part, part-lay, is-lay}
+use Rattle.patch.proofs.Parts.{length-lay, lay-inside, lay-below, lay-above, lay-none, lay-cons, lay-again, length-part, part-lay, laid-front, is-lay}
 use Rattle.refusal.specs.Refusal.{badDegree}
 use Rattle.field.specs.Symbols.{plus, times}
 use Rattle.field.specs.Lists.{added}
@@ -95,8 +95,7 @@ copied at m l z {p} room fits is =
     let q : List ℕ = part at m l in
     let size : length q ≡ m = length-part at m l fits in
     let all : at + m - at ≡ m = omega arith in
-    let front : take (length q) (lay 0 q z) ≡ q = part-lay 0 q z (omega arith) in
-    rw (is, all) (rw size at front)
+    laid-front q z (rw all at is) size room
 
 module _ (d : ℕ) (good : badDegree d ≡ false) (nodes us : List ℕ) (enough : length us ≤ length nodes) where
   newton-cons : (j : ℕ) → j < length us

@@ -2,8 +2,8 @@
 -- Assumes nothing.
 use mathlib.Core.Path.{sym, ap, _∙_}
 use native.Mathlib.Omega.{arith}
+use Rattle.patch.proofs.Parts.{laid-front}
 use Rattle.desk.specs.Desk.{placed}
-use Rattle.desk.proofs.Fronts.{front-of}
 use Rattle.desk.proofs.Sound.{Puttable, puttable, sound}
 use Rattle.desk.proofs.Promised.{puts, puts-not, made-put}
 use borrow.Author.Needs.{needs}
@@ -42,7 +42,7 @@ returns-2 : tie.Need-returns-2
 returns-2 c =
     let at = c .before .before .before .before in
     let s = start at .args in
-    let copy = front-of (s .self .rows) (s .symbols .now) _ (c .before .before .store .ensures) (can at .count) (omega (arith, sound (start at .pre) .most-rows)) in
+    let copy = laid-front (s .symbols .now) _ (c .before .before .store .ensures) (can at .count) (omega (arith, sound (start at .pre) .most-rows)) in
     let kept = puts (s .self) (s .column) (s .symbols .now) (sym (at .if1 .left) ∙ at .before .put-refusal .ensures) (c .place .ensures ∙ ap (placed (s .self) (s .column)) copy) in
     (kept, made-put (s .self) (s .column) (s .symbols .now) (start at .pre) kept)
 

@@ -5,6 +5,7 @@ use Prim.Native.Nat.{_≤_}
 use native.Mathlib.Omega.{arith}
 use lib.ListN.{length, take, replicate}
 use lib.Seq.{length-take-le}
+use Rattle.patch.proofs.Parts.{laid-front}
 use Rattle.mark.specs.Code.{Code, codeOf}
 use Rattle.ending.specs.Endings.{Ends, Corrects}
 use Rattle.ending.proofs.Model.{Outcome}
@@ -12,7 +13,6 @@ use Rattle.ending.proofs.ModelEnds.{model-ends}
 use Rattle.ending.proofs.ModelCode.{code-ends}
 use Rattle.joint.specs.Promises.{buffers}
 use Rattle.joint.specs.Working.{reducedPoints, reducedValues}
-use Rattle.joint.proofs.Places.{front}
 use Rattle.joint.proofs.Reduced.{most-points, length-values, all-reduced}
 use Rattle.joint.proofs.Blank.{zeros-front}
 use borrow.Author.Needs.{needs}
@@ -30,10 +30,10 @@ module _ (c : tie.After-conditions) where
   few = omega (arith, c .conditions .ensures .0, most-points (start .args .points .now) (start .args .degree) (start .args .lengths .now) (start .pre .0 .0))
 
   points : take (c .conditions .result) (c .conditions .last .1 .1 .1 .1 .1 .1 .0) ≡ reducedPoints (start .args .points .now) (start .args .lengths .now)
-  points = front (reducedPoints (start .args .points .now) (start .args .lengths .now)) (replicate 384 0) (c .conditions .ensures .2) (sym (c .conditions .ensures .0)) (omega (arith, few))
+  points = laid-front (reducedPoints (start .args .points .now) (start .args .lengths .now)) (replicate 384 0) (c .conditions .ensures .2) (sym (c .conditions .ensures .0)) (omega (arith, few))
 
   values : take (c .conditions .result) (c .conditions .last .1 .1 .1 .1 .1 .0) ≡ reducedValues (start .args .degree) (start .args .points .now) (start .args .lengths .now) (start .args .received .now)
-  values = front (reducedValues (start .args .degree) (start .args .points .now) (start .args .lengths .now) (start .args .received .now)) (replicate 384 0) (c .conditions .ensures .1)
+  values = laid-front (reducedValues (start .args .degree) (start .args .points .now) (start .args .lengths .now) (start .args .received .now)) (replicate 384 0) (c .conditions .ensures .1)
       (length-values (start .args .degree) (start .pre .0 .1 .field) (start .args .points .now) (start .args .lengths .now) (start .args .received .now) (start .pre .1 .0 .0 .count) ∙ sym (c .conditions .ensures .0)) (omega (arith, few))
 
 slice-aggregate-conditions : tie.Need-slice-aggregate-conditions
@@ -71,7 +71,7 @@ returns c = λ lent.
     let p = c .before .before .before .before .before .before .before .before .before .before .before .before .before .before .before .before .before .before .before .before .before .before .pre in
     let a = c .before .before .before .before .before .before .before .before .before .before .before .before .before .before .before .before .before .before .before .before .before .before .args in
     let zeros = all-reduced (a .degree) (p .0 .1 .field) (a .points .now) (a .lengths .now) (a .received .now) (rw (values (c .before .before .before .before .before .before .before .before .before .before .before .before .before)) at (c .before .before .before .before .before .before .before .before .before .all-zero .ensures .0 (c .before .before .before .before .before .before .before .before .if1 .taken))) in
-    let array = front (a .received .now) (a .array .now) (c .before .before .before .before .before .before .store .ensures) (p .1 .0 .0 .count) (omega (arith, p .0 .0 .cells, p .1 .1 .1)) in
+    let array = laid-front (a .received .now) (a .array .now) (c .before .before .before .before .before .before .store .ensures) (p .1 .0 .0 .count) (omega (arith, p .0 .0 .cells, p .1 .1 .1)) in
     let flags = zeros-front (length (a .points .now)) (a .flags .now) (c .before .before .clear .ensures) (omega (arith, p .0 .0 .most-columns, p .1 .1 .2)) in
     subst (Corrects (code (c .before .before .before .before .before .before .before .before .before .before .before .before .before .before .before .before .before .before .before .before .before .before)) (a .received .now) (a .limit) 0) (ap₂ buffers (sym array) (sym flags)) (code-ends (p .0 .1) (p .1 .0 .0) zeros (a .limit) lent)
 
