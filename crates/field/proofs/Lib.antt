@@ -4,6 +4,4 @@ pub mod Products
 pub mod Powers
 pub mod Instance
 pub mod Reading
-pub mod Combined
-pub mod InParts
 pub mod Promised

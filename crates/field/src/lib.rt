@@ -1,5 +1,4 @@
-// Symbols of GF(4), GF(16) and GF(256): sum, product and quotient, and the loops over lists of symbols.
-pub mod lists;
+// Symbols of GF(4), GF(16) and GF(256): sum, product and quotient.
 pub mod tables;
 
 ghost use mathlib.Core.Path.{_≡_};

@@ -862,8 +862,8 @@ pub fn size(degree: u32) -> usize
     1usize << degree
 }
 
-// The exponent of a symbol that is not zero, as a power of x.
-pub(crate) fn exponent_from(table: &[u8; LENT], degree: u32, a: u8) -> usize
+// For the crates above: the exponent of a symbol that is not zero, as a power of x.
+pub fn exponent_from(table: &[u8; LENT], degree: u32, a: u8) -> usize
     requires { ⌜ badDegree degree ≡ false ⌝ }
     requires { ⌜ IsTable degree (now table) ⌝ }
     requires { ⌜ a < 2 ^ degree ⌝ }
@@ -873,8 +873,8 @@ pub(crate) fn exponent_from(table: &[u8; LENT], degree: u32, a: u8) -> usize
     wide(table[wide(a)])
 }
 
-// A power of x, within the two rounds that a table has.
-pub(crate) fn power_from(table: &[u8; LENT], degree: u32, i: usize) -> u8
+// For the crates above: a power of x, within the two rounds that a table has.
+pub fn power_from(table: &[u8; LENT], degree: u32, i: usize) -> u8
     requires { ⌜ badDegree degree ≡ false ⌝ }
     requires { ⌜ IsTable degree (now table) ⌝ }
     requires { ⌜ i < (2 ^ degree - 1) + (2 ^ degree - 1) ⌝ }

@@ -2,7 +2,6 @@
 --
 --   beyond-none, beyond-lead    whether the lead of another line is beyond a bound, by the number that the scan answers
 --   least-line                  the number that the scan for the least line answers is that of a line
---   joint-less                  the joint limit is below n
 --   solved-rows                 what the solver is given are the rows that the model reduces
 --   decided-none, decided-several, decided-alone    what the model decides
 --   Solved          what the code decides on
@@ -11,10 +10,10 @@
 -- Assumes nothing.
 use mathlib.Core.Path.{_≡_, refl, sym, ap, ap₂, _∙_, subst, subst₂}
 use mathlib.Core.Logic.{_↔_}
-use mathlib.Core.List.{List, [], _∷_, map}
+use mathlib.Core.List.{List, map}
 use mathlib.Core.Option.{Option, some}
 use Prim.Native.Nat.{ℕ, suc, _+_, _-_, _*_, _/_, _≤_, _<_}
-use native.Mathlib.Nat.{le-refl, mul-le-mul}
+use native.Mathlib.Nat.{mul-le-mul}
 use native.Mathlib.Numerals.{add-one}
 use native.Mathlib.Decide.{ℕ-discrete, decLe, decLt}
 use native.Mathlib.Omega.{arith}
@@ -24,9 +23,9 @@ use Rattle.field.specs.Symbols.{IsSymbol}
 use Rattle.field.specs.Arithmetic.{gf}
 use Rattle.poly.specs.Poly.{All, Poly}
 use Rattle.mark.specs.Code.{Code, rows, columns, IsArray, jointLimit}
-use Rattle.mark.proofs.Proper.{Within, Proper}
+use Rattle.mark.proofs.Proper.{Proper}
 use Rattle.mark.proofs.Passed.{Counts}
-use Rattle.mark.proofs.Limits.{Room, joint-room}
+use Rattle.mark.proofs.Limits.{joint-less}
 use Rattle.basis.proofs.Lines.{Line, least, another, size, locatorOf}
 use Rattle.basis.proofs.Lists.{all-right}
 use Rattle.basis.proofs.Cut.{cut-poly}
@@ -40,8 +39,8 @@ use Rattle.ending.specs.declared.Ending.the-variants.{Nothing, Several}
 use Rattle.ending.proofs.WrongColumns.{rootCount}
 use Rattle.ending.proofs.Model.{rowsOf, linesOf, Beyond, beyond, divided, alone, within, lowest, decided}
 use Rattle.ending.proofs.ModelRows.{rows-symbols}
-use Rattle.joint.specs.Working.{reducedPoints, reducedValues}
-use Rattle.joint.proofs.Reduced.{points-of, values-of, counts-of}
+use Rattle.conditions.specs.Working.{reducedPoints, reducedValues}
+use Rattle.conditions.proofs.Reduced.{points-of, values-of, counts-of}
 
 module _ (B : ℕ) (es : List (Line ℕ)) (m r : ℕ) (scanned : getElem? es r ≡ another m es) where
   pub beyond-none : length es ≤ r → Beyond B (another m es)
@@ -51,13 +50,6 @@ module _ (B : ℕ) (es : List (Line ℕ)) (m r : ℕ) (scanned : getElem? es r �
   beyond-lead h = let e = sym (line-some blank es r h) ∙ scanned in (λ b. subst (Beyond B) (sym e) b, λ b. subst (Beyond B) e b)
 
 module _ {c : Code} (p : Proper c) where
-  pub joint-less : Counts c → jointLimit c < columns c
-  joint-less h = go (c .lengths) (joint-room p (le-refl (jointLimit c))) (h .lengths) (h .some-rows)
-    where
-      go : (ks : List ℕ) → Room (columns c) (jointLimit c) ks → Within 1 (columns c) ks → 1 ≤ length ks → jointLimit c < columns c
-      go [] r w q = absurd (omega arith)
-      go (k ∷ ks) r w q = omega (arith, r .0, w .0 .0)
-
   module _ {y : List ℕ} (received : IsArray c y) where
     pub least-line : (r : ℕ) → getElem? (linesOf c y) r ≡ least (linesOf c y)
         → (r < length (linesOf c y)) × (least (linesOf c y) ≡ some (getD (linesOf c y) r blank))

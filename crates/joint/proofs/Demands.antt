@@ -29,13 +29,13 @@ use Rattle.refusal.specs.Refusal.{Check, _when_, first}
 use Rattle.mark.specs.Code.{CodeArray, flagsOf, wrongCount, safeLimit}
 use Rattle.mark.specs.Checks.{spaceBytes, decodeChecks}
 use Rattle.mark.proofs.Passed.{PassedDecoding, decoding}
+use Rattle.mark.proofs.Limits.{joint-less}
 use Rattle.ending.specs.Endings.{detailOf, packed, Ends}
 use Rattle.ending.specs.declared.Ending.{Ending}
 use Rattle.ending.specs.declared.Ending.the-variants.{Refused, Corrected, Nothing, Several, Hollow}
 use Rattle.ending.proofs.Demands as endings
 use Rattle.joint.specs.Promises.{Given, Left, left, cleared, DecodesBy, Decodes}
 use Rattle.joint.proofs.Promised.{firstOf}
-use Rattle.joint.proofs.Decisions.{joint-less}
 
 -- the numbers of checks are at most m
 abbrev Upto : ℕ → List Check → Type 0

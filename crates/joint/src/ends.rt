@@ -12,9 +12,8 @@ ghost use Rattle.basis.proofs.Lines.{Line, another};
 ghost use Rattle.solver.specs.Held.{Holds, LeadsOf};
 ghost use Rattle.ending.specs.Endings.{Buffers, Ends};
 ghost use Rattle.ending.proofs.Model.{Beyond, decided, linesOf};
-ghost use Rattle.joint.specs.Working.{reducedPoints, reducedValues, fronts, released};
-use crate::conditions;
-use crate::finish;
+ghost use Rattle.conditions.specs.Working.{reducedPoints, reducedValues};
+ghost use Rattle.finish.specs.Working.{fronts, released};
 use ending::Ending;
 use field::tables::LENT;
 

@@ -1,7 +1,5 @@
 // Joint decoding of interleaved arrays.
-mod conditions;
 mod ends;
-mod finish;
 
 ghost use mathlib.Core.Path.{_≡_};
 ghost use lib.ListN.{length};
@@ -9,7 +7,8 @@ ghost use Rattle.mark.specs.Code.{codeOf};
 ghost use Rattle.mark.proofs.Passed.{PassedDecoding};
 ghost use Rattle.ending.specs.Endings.{Ends};
 ghost use Rattle.joint.specs.Promises.{Decodes, buffers, given, left};
-ghost use Rattle.joint.specs.Working.{Blank, released};
+ghost use Rattle.finish.specs.Working.{released};
+ghost use Rattle.joint.specs.Working.{Blank};
 use ending::Ending;
 use field::tables;
 

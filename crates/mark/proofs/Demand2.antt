@@ -177,4 +177,5 @@ last-skipped lent h =
 -- 'Points 1 2 1: refused 6'; with a message of three for k = 2 it is 5
 pub six-first : (lent : List ℕ) → Encodes (codeOf 4 (1 ∷ 2 ∷ 1 ∷ []) (2 ∷ [])) (5 ∷ 6 ∷ 7 ∷ []) lent (refused 6 lent) → ⊥
 unfolding first badDegree outside someOutside total
-six-first lent h = let z = encode-refused (codeOf 4 (1 ∷ 2 ∷ 1 ∷ []) (2 ∷ [])) (5 ∷ 6 ∷ 7 ∷ []) lent (refused 6 lent) h 6 refl .0 in omega arith
+six-first lent h = let z = encode-refused (codeOf 4 (1 ∷ 2 ∷ 1 ∷ []) (2 ∷ [])) (5 ∷ 6 ∷ 7 ∷ []) lent
+    (refused 6 lent) h 6 refl .0 in omega arith

@@ -5,13 +5,17 @@
 --   joint-room      so it is up to the joint limit
 --   safe-room       and for the sum of two sizes up to the safe limit
 --   room-largest    and then the largest k is at most n − t
+--   joint-less      the joint limit is below n
 -- Assumes nothing.
 use mathlib.Core.List.{List, [], _∷_}
-use Prim.Native.Nat.{ℕ, _+_, _-_, _≤_}
+use Prim.Native.Nat.{ℕ, _+_, _-_, _≤_, _<_}
+use native.Mathlib.Nat.{le-refl}
 use native.Mathlib.Omega.{arith}
+use lib.ListN.{length}
 use Rattle.poly.specs.Poly.{All}
 use Rattle.mark.specs.Code.{Code, columns, largest, jointLimit, safeLimit}
 use Rattle.mark.proofs.Proper.{Within, Proper}
+use Rattle.mark.proofs.Passed.{Counts}
 
 abbrev pub Room : ℕ → ℕ → List ℕ → Type 0
 Room n t ks = All (λ (k : ℕ). k + t ≤ n) ks
@@ -40,3 +44,10 @@ module _ {c : Code} (p : Proper c) where
   pub safe-room : {u w : ℕ} → u ≤ safeLimit c → w ≤ safeLimit c → Room (columns c) (u + w) (c .lengths)
   unfolding safeLimit
   safe-room {u} {w} l q = room (omega arith)
+
+  pub joint-less : Counts c → jointLimit c < columns c
+  joint-less h = go (c .lengths) (joint-room (le-refl (jointLimit c))) (h .lengths) (h .some-rows)
+    where
+      go : (ks : List ℕ) → Room (columns c) (jointLimit c) ks → Within 1 (columns c) ks → 1 ≤ length ks → jointLimit c < columns c
+      go [] r w q = absurd (omega arith)
+      go (k ∷ ks) r w q = omega (arith, r .0, w .0 .0)

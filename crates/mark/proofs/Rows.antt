@@ -144,7 +144,8 @@ module _ {c : Code} {l p q k : ℕ} (h : Place c l p q k) where
         let room : p + length (v ++ w) ≤ length t = omega (
           arith,
           ap length whole,
-          length-message (gf degree) laws points (y .distinct) (y .symbols) (drop l lengths) (drop q a) (all-drop _ l lengths (y .lengths)) left,
+          length-message (gf degree) laws points (y .distinct) (y .symbols) (drop l lengths) (drop q a)
+              (all-drop _ l lengths (y .lengths)) left,
           h .before .message,
         ) in
         rw (← drop-drop n q a, whole) (behind p v w t count is room)

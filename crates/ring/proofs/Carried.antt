@@ -77,7 +77,8 @@ module _ (f : ℕ → List ℕ) (r n x : ℕ) (sized : (y : ℕ) → y < n → l
       ∙ ap (λ (v : List ℕ). lay 0 v l) (sym (flat-more f x) ∙ ap (λ (k : ℕ). flatMap f (numbers k)) (sym (add-one x)))
 
 -- what turning an array of q rows, or its columns, asks of counts
-pub sides : (q n : ℕ) → badSize q ≡ false → n ≡ q → (0 < n) × (n ≤ 16) × (0 < n * n) × (n * n ≤ 16) × (n * (n * n) ≡ q * q * q) × (n * n * n ≡ q * q * q)
+pub sides : (q n : ℕ) → badSize q ≡ false → n ≡ q → (0 < n) × (n ≤ 16) × (0 < n * n) × (n * n ≤ 16) × (n * (n * n) ≡ q * q * q)
+    × (n * n * n ≡ q * q * q)
 sides q n size e =
     let b = bounds q size in
     rw e (b .some, omega (arith, b .side), mul-le-mul (b .some) (b .some), b .columns, mul-comm q (q * q), refl)
@@ -122,10 +123,12 @@ module _ (q : ℕ) (size : badSize q ≡ false) where
         → r ≡ lay 0 (flatMap (λ y. coefficients q y (part (y * q) q w)) (numbers (x + 1))) l
     columns-turn h {s} is then =
         laid-step (λ y. coefficients q y (part (y * q) q w)) q (q * q) x
-        (λ y k. coefficients-poly q size y k (part (y * q) q w) (length-sector q size y w k (h .count)) (symbols-sector q y w (h .symbols)) .count)
+        (λ y k. coefficients-poly q size y k (part (y * q) q w) (length-sector q size y w k (h .count))
+        (symbols-sector q y w (h .symbols)) .count)
         (t .below) l fits is
         (then ∙ ap₂ (λ (i : ℕ) (v : List ℕ). lay i v s) (ap (_*_ x) (t .count))
-        (ap₂ (λ (u v : List ℕ). fromNewton (gf q) q u (reduce (gf q) q u v)) (sector-cut t is-ys) (cut-is t w) ∙ unfold coefficients in refl))
+        (ap₂ (λ (u v : List ℕ). fromNewton (gf q) q u (reduce (gf q) q u v)) (sector-cut t is-ys) (cut-is t w)
+        ∙ unfold coefficients in refl))
 
   module _ {n : ℕ} (count : n ≡ q) {array : List ℕ} (h : IsRing q array) (z : List ℕ) (fits : q * q * q ≤ length z) {c : List ℕ}
       (is : c ≡ lay 0 (turned n (n * n) array) z) where

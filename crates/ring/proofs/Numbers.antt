@@ -84,7 +84,8 @@ flat-cong f g (suc n) h =
 pub all-flat : {B : Type 0} (P : B → Type 0) (f : ℕ → List B) (n : ℕ) → ((x : ℕ) → x < n → All P (f x)) → All P (flatMap f (numbers n))
 all-flat P f zero h = unfold numbers flatMap in tt
 all-flat P f (suc n) h =
-    subst (All P) (sym (flat-more f n)) (all-append P (flatMap f (numbers n)) (f n) (all-flat P f n (λ x k. h x (omega arith))) (h n (omega arith)))
+    subst (All P) (sym (flat-more f n))
+    (all-append P (flatMap f (numbers n)) (f n) (all-flat P f n (λ x k. h x (omega arith))) (h n (omega arith)))
 
 -- the parts of l from 0 on, r numbers each, make up its front
 flat-front : (r n : ℕ) (l : List ℕ) → flatMap (λ x. part (x * r) r l) (numbers n) ≡ take (n * r) l
@@ -150,7 +151,8 @@ column-cons r n a x = ext-getD 0 (column (suc r) n a x) (getD a x 0 ∷ column r
     go : (j : ℕ) → j < suc r → getD a (j * n + x) 0 ≡ getD (getD a x 0 ∷ column r n (drop n a) x) j 0
     go zero h = ap (λ (i : ℕ). getD a i 0) (omega (arith, zero-mul n))
     go (suc j) h =
-        ap (λ (i : ℕ). getD a i 0) (omega (arith, suc-mul j n)) ∙ sym (getD-drop n a (j * n + x) 0) ∙ sym (column-at r n (drop n a) x j (omega arith))
+        ap (λ (i : ℕ). getD a i 0) (omega (arith, suc-mul j n)) ∙ sym (getD-drop n a (j * n + x) 0)
+        ∙ sym (column-at r n (drop n a) x j (omega arith))
 
 pub column-same : (r n : ℕ) (a b : List ℕ) (x : ℕ)
     → ((j : ℕ) → j < r → getD a (j * n + x) 0 ≡ getD b (j * n + x) 0) ↔ (column r n a x ≡ column r n b x)

@@ -25,7 +25,7 @@ use Rattle.ending.specs.declared.Ending.{Ending}
 use Rattle.ending.specs.declared.Ending.the-variants.{Refused, Corrected, Nothing, Several, Hollow}
 use Rattle.joint.specs.Promises.{buffers, cleared}
 use Rattle.joint.specs.Promises as Joint
-use Rattle.joint.specs.Working.{released}
+use Rattle.finish.specs.Working.{released}
 use Rattle.ring.specs.Ring.{ringCode, ringWord, IsRing, ringOf, ArrayOf}
 use Rattle.ring.specs.Checks.{encodeChecks, readChecks, decodeChecks}
 use Rattle.ring.specs.Promises.{EncodesBy, Encodes, ReadsBy, Reads, Given, RingEnds, DecodesBy, Decodes}

@@ -145,7 +145,8 @@ module _ (q : ℕ) (size : badSize q ≡ false) where
     unfolding arrayOf
     is-array = record {
       count = Numbers.length-turned (q * q) q (columnsOf q w) ∙ mul-comm q (q * q);
-      symbols = Numbers.all-flat (IsSymbol q) (column (q * q) q (columnsOf q w)) q (λ j k. symbols-column q (q * q) q (columnsOf q w) j columns-symbols);
+      symbols = Numbers.all-flat (IsSymbol q) (column (q * q) q (columnsOf q w)) q
+          (λ j k. symbols-column q (q * q) q (columnsOf q w) j columns-symbols);
     }
 
     pub column-array : (x : ℕ) → x < q * q → column q (q * q) (arrayOf q w) x ≡ coefficients q x (part (x * q) q w)

@@ -51,7 +51,8 @@ module _ (g : Given) where
       let same : h .array ≡ k .array = sym (one (h .array) .0 (h .is-array)) ∙ one (k .array) .0 (k .is-array) in
       let ends : Ends (ringCode (g .q) (g .m)) (k .array) (g .limit) (g .lent) e (h .answer) =
       subst (λ (a : List ℕ). Ends (ringCode (g .q) (g .m)) a (g .limit) (g .lent) e (h .answer)) same (h .ends) in
-      let u = unique (ring-proper (g .q) (g .m) (p .ring .size) (p .ring .order)) (array-ring (g .q) (g .m) .1 (k .is-array .array)) (g .limit)
+      let u = unique (ring-proper (g .q) (g .m) (p .ring .size) (p .ring .order)) (array-ring (g .q) (g .m) .1 (k .is-array .array))
+      (g .limit)
       (p .limit) e e′ (g .lent) (h .answer) (k .answer) ends (k .ends) in
       (u .0, h .back ∙ ap₂ (carriedBack (g .q)) (u .0) (u .1) ∙ sym (k .back))
 

@@ -7,7 +7,7 @@ ghost use lib.ListN.{length};
 ghost use Rattle.refusal.specs.Refusal.{first};
 ghost use Rattle.mark.specs.Promises.{left};
 ghost use Rattle.joint.specs.Promises as Joint;
-ghost use Rattle.joint.specs.Working.{released};
+ghost use Rattle.finish.specs.Working.{released};
 ghost use Rattle.ring.specs.Ring.{IsRing, ringOf, ringWord};
 ghost use Rattle.ring.specs.Checks.{badSize, decodeChecks, encodeChecks, readChecks};
 ghost use Rattle.ring.specs.Promises.{Decodes, Encodes, Reads, RingEnds, given};

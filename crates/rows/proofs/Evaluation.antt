@@ -20,7 +20,7 @@ use Rattle.patch.specs.Parts.{lay}
 use Rattle.patch.proofs.Parts.{length-lay, lay-inside, lay-again, patch-is-lay}
 use Rattle.refusal.specs.Refusal.{badDegree}
 use Rattle.field.specs.Symbols.{plus, times}
-use Rattle.field.specs.Lists.{multiplied, SymbolsAt}
+use Rattle.lists.specs.Lists.{multiplied, SymbolsAt}
 use Rattle.field.specs.Arithmetic.{Arithmetic, gf}
 use Rattle.field.proofs.Laws.{Field}
 use Rattle.field.proofs.Instance.{field}

@@ -22,7 +22,7 @@ use Rattle.patch.proofs.Laws.{length-patch, patch-inside, patch-below, patch-ab
 use Rattle.patch.proofs.Parts.{length-lay, lay-inside, lay-below, lay-above, lay-none, lay-cons, lay-again, length-part, part-lay, laid-front, is-lay}
 use Rattle.refusal.specs.Refusal.{badDegree}
 use Rattle.field.specs.Symbols.{plus, times}
-use Rattle.field.specs.Lists.{added}
+use Rattle.lists.specs.Lists.{added}
 use Rattle.field.specs.Arithmetic.{gf}
 use Rattle.field.proofs.Instance.{field}
 use Rattle.poly.proofs.Forms.{lin, fromNewton}

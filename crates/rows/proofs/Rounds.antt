@@ -27,7 +27,7 @@ use Rattle.patch.proofs.Laws.{patch-cong}
 use Rattle.patch.proofs.Parts.{length-part, part-at, lay-end, part-lay, patch-is-lay, patch-lay}
 use Rattle.refusal.specs.Refusal.{badDegree}
 use Rattle.field.specs.Symbols.{plus, times, over}
-use Rattle.field.specs.Lists.{multiplied, SymbolsAt}
+use Rattle.lists.specs.Lists.{multiplied, SymbolsAt}
 use Rattle.field.specs.Arithmetic.{gf}
 use Rattle.field.proofs.Instance.{field}
 use Rattle.poly.proofs.Forms.{apart, reduce}

@@ -18,7 +18,7 @@ use Rattle.patch.specs.Patch.{patch}
 use Rattle.patch.proofs.Laws.{length-patch, patch-inside, patch-below, front-at}
 use Rattle.refusal.specs.Refusal.{badDegree}
 use Rattle.field.specs.Symbols.{IsSymbol}
-use Rattle.field.specs.Lists.{SymbolsAt}
+use Rattle.lists.specs.Lists.{SymbolsAt}
 use Rattle.poly.specs.Poly.{All}
 use Rattle.rows.specs.Rows.{RoundInverses, Inverses, inverse}
 use Rattle.rows.proofs.Symbols.{symbol-at, symbols-by, symbol-patch}

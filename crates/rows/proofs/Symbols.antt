@@ -20,7 +20,7 @@ use Rattle.patch.specs.Parts.{part, lay}
 use Rattle.patch.proofs.Laws.{patch-inside, patch-below, patch-above}
 use Rattle.patch.proofs.Parts.{length-part, part-at, lay-inside}
 use Rattle.field.specs.Symbols.{IsSymbol}
-use Rattle.field.specs.Lists.{SymbolsAt}
+use Rattle.lists.specs.Lists.{SymbolsAt}
 use Rattle.poly.specs.Poly.{All}
 
 module _ (d : ℕ) where

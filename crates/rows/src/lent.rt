@@ -7,11 +7,10 @@ ghost use Rattle.refusal.specs.Refusal.{badDegree};
 ghost use Rattle.field.specs.Symbols.{IsSymbol};
 ghost use Rattle.field.specs.Arithmetic.{gf};
 ghost use Rattle.field.specs.Tables.{IsTable};
-ghost use Rattle.field.specs.Lists.{SymbolsAt};
+ghost use Rattle.lists.specs.Lists.{SymbolsAt};
 ghost use Rattle.poly.specs.Poly.{All};
 ghost use Rattle.poly.proofs.Forms.{reduce};
 ghost use Rattle.rows.specs.Rows.{Points, Inverses};
-use field::lists;
 use field::tables::LENT;
 
 // For the crates above: the inverses of k rounds, those of round j in ws from 96·j on.

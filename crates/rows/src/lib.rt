@@ -11,11 +11,10 @@ ghost use Rattle.refusal.specs.Refusal.{badDegree};
 ghost use Rattle.field.specs.Symbols.{IsSymbol, plus};
 ghost use Rattle.field.specs.Arithmetic.{gf};
 ghost use Rattle.field.specs.Tables.{IsTable};
-ghost use Rattle.field.specs.Lists.{SymbolsAt};
+ghost use Rattle.lists.specs.Lists.{SymbolsAt};
 ghost use Rattle.poly.specs.Poly.{All, valuesAt};
 ghost use Rattle.poly.proofs.Forms.{lin, reduce, fromNewton, newtonValue};
 ghost use Rattle.rows.specs.Rows.{Points, RoundInverses, inverse, difference};
-use field::lists;
 use field::tables;
 use field::tables::LENT;
 

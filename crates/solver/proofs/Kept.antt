@@ -18,7 +18,7 @@ use Rattle.patch.proofs.Laws.{patch-inside, patch-above}
 use Rattle.refusal.specs.Refusal.{badDegree}
 use Rattle.field.specs.Symbols.{IsSymbol, plus, times}
 use Rattle.field.specs.Arithmetic.{gf}
-use Rattle.field.specs.Lists.{added}
+use Rattle.lists.specs.Lists.{added}
 use Rattle.field.proofs.Instance.{field}
 use Rattle.poly.specs.Poly.{All}
 use Rattle.poly.proofs.Ring.{plus-zero, times-zero, times-comm}

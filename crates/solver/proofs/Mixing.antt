@@ -21,7 +21,7 @@ use Rattle.patch.proofs.Parts.{length-part, length-lay}
 use Rattle.refusal.specs.Refusal.{badDegree}
 use Rattle.field.specs.Symbols.{plus, times, over}
 use Rattle.field.specs.Arithmetic.{gf}
-use Rattle.field.specs.Lists.{added}
+use Rattle.lists.specs.Lists.{added}
 use Rattle.field.proofs.Instance.{field}
 use Rattle.poly.proofs.Ring.{plus-zero, zero-times}
 use Rattle.rows.proofs.Newton as rows

@@ -22,7 +22,7 @@ use Rattle.patch.proofs.Laws.{patch-inside}
 use Rattle.refusal.specs.Refusal.{badDegree}
 use Rattle.field.specs.Symbols.{IsSymbol}
 use Rattle.field.specs.Arithmetic.{gf}
-use Rattle.field.specs.Lists.{SymbolsAt}
+use Rattle.lists.specs.Lists.{SymbolsAt}
 use Rattle.field.proofs.Instance.{field}
 use Rattle.poly.specs.Poly.{All}
 use Rattle.basis.proofs.Pivot.{lowest}

@@ -16,7 +16,7 @@ use Rattle.patch.proofs.Parts.{length-part, part-at, lay-inside, lay-below, lay
 use Rattle.refusal.specs.Refusal.{badDegree}
 use Rattle.field.specs.Symbols.{IsSymbol, plus, times}
 use Rattle.field.specs.Arithmetic.{gf}
-use Rattle.field.specs.Lists.{multiplied}
+use Rattle.lists.specs.Lists.{multiplied}
 use Rattle.field.proofs.Instance.{field}
 use Rattle.poly.proofs.Ring.{plus-zero, times-zero}
 use Rattle.poly.proofs.Forms.{lin}

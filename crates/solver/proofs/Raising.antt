@@ -22,7 +22,7 @@ use Rattle.patch.proofs.Parts.{length-part, part-at}
 use Rattle.refusal.specs.Refusal.{badDegree}
 use Rattle.field.specs.Symbols.{IsSymbol, plus, times}
 use Rattle.field.specs.Arithmetic.{gf}
-use Rattle.field.specs.Lists.{multiplied, SymbolsAt}
+use Rattle.lists.specs.Lists.{multiplied, SymbolsAt}
 use Rattle.field.proofs.Instance.{field}
 use Rattle.poly.specs.Poly.{All}
 use Rattle.poly.proofs.Forms.{lin}

@@ -17,7 +17,7 @@ use Rattle.patch.specs.Patch.{patch}
 use Rattle.patch.specs.Parts.{part, lay}
 use Rattle.field.specs.Symbols.{over}
 use Rattle.field.specs.Arithmetic.{gf}
-use Rattle.field.specs.Lists.{added, multiplied}
+use Rattle.lists.specs.Lists.{added, multiplied}
 use Rattle.poly.proofs.Forms.{lin}
 use Rattle.solver.specs.Slots.{slots, Only, Each}
 

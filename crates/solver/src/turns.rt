@@ -8,11 +8,10 @@ ghost use Rattle.patch.specs.Parts.{part};
 ghost use Rattle.refusal.specs.Refusal.{badDegree};
 ghost use Rattle.field.specs.Symbols.{IsSymbol};
 ghost use Rattle.field.specs.Tables.{IsTable};
-ghost use Rattle.field.specs.Lists.{SymbolsAt};
+ghost use Rattle.lists.specs.Lists.{SymbolsAt};
 ghost use Rattle.poly.specs.Poly.{All};
 ghost use Rattle.solver.specs.Slots.{slots, Only, Each};
 ghost use Rattle.solver.specs.Turns.{Copied, mixed, raised, Turned};
-use field::lists;
 use field::tables;
 use field::tables::LENT;
 

@@ -2,7 +2,7 @@
 -- Assumes nothing.
 use mathlib.Core.Path.{ap₂}
 use Rattle.joint.specs.Promises.{buffers}
-use Rattle.joint.proofs.Places.{copied}
+use Rattle.conditions.proofs.Places.{copied}
 use borrow.Author.Needs.{needs}
 use Rattle.joint.proofs.release.Statement.{statement}
 use Rattle.joint.proofs.release.Tie as tie

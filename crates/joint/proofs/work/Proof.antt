@@ -9,7 +9,7 @@ use lib.Seq.{length-take-le}
 use Rattle.mark.specs.Code.{codeOf}
 use Rattle.ending.specs.Endings.{Buffers, Ends}
 use Rattle.joint.specs.Promises.{buffers}
-use Rattle.joint.specs.Working.{released, fronts}
+use Rattle.finish.specs.Working.{fronts, released}
 use Rattle.mark.proofs.Rows.{copied}
 use Rattle.joint.proofs.Blank.{blank-of}
 use borrow.Author.Needs.{needs}

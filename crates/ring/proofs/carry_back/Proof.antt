@@ -15,7 +15,8 @@ enum-told-2 : tie.Need-enum-told-2
 enum-told-2 c = search needs
 
 to-ring-requires : tie.Need-to-ring-requires
-to-ring-requires c κs = let start = c .before .before .before .before .before in (start .pre .0, start .pre .2 _ (c .before .enum-told2 .given .1), start .pre .1)
+to-ring-requires c κs = let start =
+    c .before .before .before .before .before in (start .pre .0, start .pre .2 _ (c .before .enum-told2 .given .1), start .pre .1)
 
 enum-told-3 : tie.Need-enum-told-3
 enum-told-3 c = search needs
@@ -33,7 +34,8 @@ same-length : tie.Need-same-length
 same-length c = search needs
 
 returns-2 : tie.Need-returns-2
-returns-2 c = λ f. rw (c .before .before .before .before .enum-told2 .given .1) (ap (λ (w : List ℕ). buffers w f) (c .before .before .to-ring .ensures))
+returns-2 c = λ f. rw (c .before .before .before .before .enum-told2 .given .1)
+    (ap (λ (w : List ℕ). buffers w f) (c .before .before .to-ring .ensures))
 
 returns-3 : tie.Need-returns-3
 returns-3 c = λ f. rw (c .enum-told3 .given .1)

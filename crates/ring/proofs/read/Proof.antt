@@ -9,14 +9,17 @@ use Rattle.ring.proofs.read.Statement.{statement}
 use Rattle.ring.proofs.read.Tie as tie
 
 -- no check applies
-passes : (c : tie.Else1) → 0 ≡ first (readChecks (c .before .before .before .before .args .q) (c .before .before .before .before .args .m) (c .before .before .before .before .args .word .now) (c .before .before .before .before .args .message .now))
+passes : (c : tie.Else1) → 0 ≡ first
+    (readChecks (c .before .before .before .before .args .q) (c .before .before .before .before .args .m) (c .before .before .before .before .args .word .now) (c .before .before .before .before .args .message .now))
 passes c = sym (c .if1 .left) ∙ c .before .read-refusal .ensures (c .before .before .before .before .args .message .now) refl
 
 read-refusal-requires : tie.Need-read-refusal-requires
 read-refusal-requires c κs = search needs
 
 returns : tie.Need-returns
-returns c = read-refuses (c .before .before .before .before .args .q) (c .before .before .before .before .args .m) (c .before .before .before .before .args .word .now) (c .before .before .before .before .args .message .now) (c .before .read-refusal .ensures (c .before .before .before .before .args .message .now) refl) (c .if1 .taken)
+returns c = read-refuses (c .before .before .before .before .args .q) (c .before .before .before .before .args .m)
+    (c .before .before .before .before .args .word .now) (c .before .before .before .before .args .message .now)
+    (c .before .read-refusal .ensures (c .before .before .before .before .args .message .now) refl) (c .if1 .taken)
 
 read-word-requires : tie.Need-read-word-requires
 read-word-requires c κs = passes (c .before)

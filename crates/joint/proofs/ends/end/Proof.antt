@@ -12,8 +12,8 @@ use Rattle.ending.proofs.Model.{Outcome}
 use Rattle.ending.proofs.ModelEnds.{model-ends}
 use Rattle.ending.proofs.ModelCode.{code-ends}
 use Rattle.joint.specs.Promises.{buffers}
-use Rattle.joint.specs.Working.{reducedPoints, reducedValues}
-use Rattle.joint.proofs.Reduced.{most-points, length-values, all-reduced}
+use Rattle.conditions.specs.Working.{reducedPoints, reducedValues}
+use Rattle.conditions.proofs.Reduced.{most-points, length-values, all-reduced}
 use Rattle.joint.proofs.Blank.{zeros-front}
 use borrow.Author.Needs.{needs}
 use Rattle.joint.proofs.ends.end.Statement.{statement}

@@ -14,7 +14,7 @@ use Rattle.solver.specs.Held.{Holds}
 use Rattle.solver.specs.Solver.{RowsAre}
 use Rattle.ending.proofs.Model.{rowsOf, linesOf}
 use Rattle.ending.proofs.ModelRows.{rows-count}
-use Rattle.joint.proofs.Reduced.{most-points, points-symbols, values-symbols, length-values, counts-front}
+use Rattle.conditions.proofs.Reduced.{most-points, points-symbols, values-symbols, length-values, counts-front}
 use Rattle.joint.proofs.Decisions.{solved-rows}
 use borrow.Author.Needs.{needs}
 use Rattle.joint.proofs.ends.locate.Statement.{statement}

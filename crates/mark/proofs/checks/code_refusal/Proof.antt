@@ -40,7 +40,8 @@ some-outside-requires c κs = search needs
 returns-4 : tie.Need-returns-4
 unfolding first
 returns-4 c = simp (
-  sym (c .before .before .before .before .before .before .before .bad-degree .ensures) ∙ c .before .before .before .before .before .before .if1 .left,
+  sym (c .before .before .before .before .before .before .before .bad-degree .ensures)
+      ∙ c .before .before .before .before .before .before .if1 .left,
   sym (c .before .before .before .before .before .outside .ensures) ∙ c .before .before .before .before .if2 .left,
   sym (c .before .before .before .outside2 .ensures) ∙ c .before .before .if3 .left,
   sym (c .before .some-outside .ensures) ∙ c .if4 .taken,
@@ -49,7 +50,8 @@ returns-4 c = simp (
 returns-5 : tie.Need-returns-5
 unfolding first
 returns-5 c = simp (
-  sym (c .before .before .before .before .before .before .before .bad-degree .ensures) ∙ c .before .before .before .before .before .before .if1 .left,
+  sym (c .before .before .before .before .before .before .before .bad-degree .ensures)
+      ∙ c .before .before .before .before .before .before .if1 .left,
   sym (c .before .before .before .before .before .outside .ensures) ∙ c .before .before .before .before .if2 .left,
   sym (c .before .before .before .outside2 .ensures) ∙ c .before .before .if3 .left,
   sym (c .before .some-outside .ensures) ∙ c .if4 .left,

@@ -40,7 +40,8 @@ loop-less c = search needs
 
 loop-again : tie.Need-loop-again Inv-loop μ-loop
 loop-again c =
-    let step = next (c .before .before .before .before .before .before .args .lengths .now) _ (c .before .before .before .loop-test .taken) in
+    let step = next (c .before .before .before .before .before .before .args .lengths .now) _
+    (c .before .before .before .loop-test .taken) in
     (omega arith, ⊎-elim (λ w. omega arith) (λ w. omega arith) (c .if1 .came))
 
 returns : tie.Need-returns Inv-loop μ-loop

@@ -75,10 +75,12 @@ returns c =
     let start = c .before .before .before .before .before .before .before .before .before .before .before .before .before .before .before .before .before .before in
     let ok = passed start in
     let v : List ℕ = encoded (code start) (start .args .message .now) in
-    let points = copied (start .args .points .now) (replicate 96 0) (c .before .before .before .before .before .before .before .before .before .before .before .copy .ensures .1) in
+    let points = copied (start .args .points .now) (replicate 96 0)
+    (c .before .before .before .before .before .before .before .before .before .before .before .copy .ensures .1) in
     let made = rw points at (c .before .before .before .before .before .before .write-rows .ensures) in
     let size : length v ≡ length (start .args .array .now) = encoded-array (ok .proper) (ok .message) .count ∙ sym (ok .array) in
-    released v (replicate 384 0) (start .args .array .now) made size (omega (arith, ok .array, ok .counts .cells)) (c .before .before .copy2 .ensures .1)
+    released v (replicate 384 0) (start .args .array .now) made size (omega (arith, ok .array, ok .counts .cells))
+    (c .before .before .copy2 .ensures .1)
 
 pub write-array-spec : {M : Type 1} → statement M
 write-array-spec =

@@ -30,7 +30,8 @@ abbrev Inv-loop : tie.InvT-loop
 Inv-loop table degree lengths points ws array s₀ from₀ at₀ l₀ s from at l =
     Before (codeOf degree points lengths) l at from
     × (length s ≡ length s₀)
-    × (lay at (messageRows (gf degree) points (drop l lengths) (drop from array)) s ≡ lay 0 (messageRows (gf degree) points lengths array) s₀)
+    × (lay at (messageRows (gf degree) points (drop l lengths) (drop from array)) s
+    ≡ lay 0 (messageRows (gf degree) points lengths array) s₀)
     × (ReducedRows (gf degree) points (drop l lengths) (drop from array) ↔ ReducedRows (gf degree) points lengths array)
 
 abbrev μ-loop : tie.MeasureT-loop
@@ -139,7 +140,8 @@ returns c =
     let rest = reduced-more here (start .args .array .now) in
     let reduced = code-array-exactly (proper start) (start .pre .1 .0 .1) in (
       λ e. absurd (true≢false (sym e)),
-      λ e h. true≢false (sym (said (c .before .before .before) .0 .1 (rest .0 (own .inv .3 .1 (reduced .0 h)) .0)) ∙ not-true _ (c .if1 .taken)),
+      λ e h. true≢false (sym (said (c .before .before .before) .0 .1 (rest .0 (own .inv .3 .1 (reduced .0 h)) .0))
+          ∙ not-true _ (c .if1 .taken)),
     )
 
 add-from : tie.Need-add-from Inv-loop μ-loop

@@ -27,11 +27,13 @@ said : (c : tie.After-read-array)
     → let start = c .before .before .before .before .before .before .before .before .before .before .before .before in
     let a = start .args .array .now in
     (c .read-array .result ≡ true
-    → (m : List ℕ) × IsMessage (code start) m × (encoded (code start) m ≡ a) × (c .read-array .last .1 .1 .1 .1 .1 .0 ≡ lay 0 m (replicate 384 0)))
+    → (m : List ℕ) × IsMessage (code start) m × (encoded (code start) m ≡ a)
+    × (c .read-array .last .1 .1 .1 .1 .1 .0 ≡ lay 0 m (replicate 384 0)))
     × (c .read-array .result ≡ false → CodeArray (code start) a → ⊥)
 said c =
     let start = c .before .before .before .before .before .before .before .before .before .before .before .before in
-    rw (copied (start .args .points .now) (replicate 96 0) (c .before .before .before .before .before .copy .ensures .1)) at (c .read-array .ensures)
+    rw (copied (start .args .points .now) (replicate 96 0) (c .before .before .before .before .before .copy .ensures .1)) at
+    (c .read-array .ensures)
 
 lend-requires : tie.Need-lend-requires
 lend-requires c κs = passed (c .before .before .before .before) .counts .degree

@@ -24,10 +24,12 @@ within c =
     omega (arith, c .loop-test .taken, s .pre .1 .0, mul-comm (s .args .r) (s .args .n))
 
 abbrev Fits : tie.Start Inv-loop μ-loop → ℕ → Type 0
-Fits s i = (i % s .args .r * s .args .n + i / s .args .r < s .args .r * s .args .n) × (i / s .args .r < s .args .n) × (i % s .args .r < s .args .r)
+Fits s i = (i % s .args .r * s .args .n + i / s .args .r < s .args .r * s .args .n) × (i / s .args .r < s .args .n)
+    × (i % s .args .r < s .args .r)
 
 fits : (c : tie.In-loop Inv-loop μ-loop) → Fits (c .before .before) (c .before .loop .i)
-fits c = let s = c .before .before in turned-fits (s .args .r) (s .args .n) (s .args .from .now) (c .before .loop .i) (s .pre .0 .0) (within c)
+fits c = let s = c .before .before in turned-fits (s .args .r) (s .args .n) (s .args .from .now) (c .before .loop .i) (s .pre .0 .0)
+    (within c)
 
 room : (c : tie.In-loop Inv-loop μ-loop) → c .before .before .args .r * c .before .before .args .n ≤ 256
 room c = let s = c .before .before in mul-le-mul (s .pre .0 .1) (s .pre .0 .2)
@@ -76,7 +78,8 @@ returns : tie.Need-returns Inv-loop μ-loop
 returns c =
     let s = c .before .before in
     let turn = c .before .loop in
-    let end : turn .i ≡ s .args .n * s .args .r = omega (arith, turn .inv .0, c .loop-test .left, s .pre .1 .0, mul-comm (s .args .r) (s .args .n)) in
+    let end : turn .i ≡ s .args .n * s .args .r =
+    omega (arith, turn .inv .0, c .loop-test .left, s .pre .1 .0, mul-comm (s .args .r) (s .args .n)) in
     turned-whole (s .args .r) (s .args .n) (s .args .from .now) _ (rw end at (turn .inv .2))
 
 pub turn-spec : {M : Type 1} → statement M

@@ -8,7 +8,8 @@ use Rattle.ring.proofs.checks.total.Statement.{statement}
 use Rattle.ring.proofs.checks.total.Tie as tie
 
 -- the message lengths that are lent
-ks : (c : tie.After-side) → Front (c .side .result) (c .before .lengths .result) (ringLengths (c .before .before .args .q) (c .before .before .args .m))
+ks : (c : tie.After-side) → Front (c .side .result) (c .before .lengths .result)
+    (ringLengths (c .before .before .args .q) (c .before .before .args .m))
 ks c = lengths-front (c .before .before .args .q) (c .before .before .args .m) _ _ (c .side .ensures) (c .before .lengths .ensures)
 
 lengths-requires : tie.Need-lengths-requires
@@ -24,7 +25,8 @@ slice-aggregate-total : tie.Need-slice-aggregate-total
 slice-aggregate-total c = lent (ks (c .before))
 
 total-requires : tie.Need-total-requires
-total-requires c κs = let start = c .before .before .before in rw (ks (c .before) .is) (ring-counts (start .args .q) (start .args .m) (start .pre .0) (start .pre .1) .most-rows)
+total-requires c κs = let start =
+    c .before .before .before in rw (ks (c .before) .is) (ring-counts (start .args .q) (start .args .m) (start .pre .0) (start .pre .1) .most-rows)
 
 returns : tie.Need-returns
 returns c = rw (ks (c .before .before) .is) at (c .total .ensures)

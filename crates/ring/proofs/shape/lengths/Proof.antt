@@ -29,7 +29,8 @@ length-requires : tie.Need-length-requires Inv-loop μ-loop
 length-requires c κs = search needs
 
 array-write-ks : tie.Need-array-write-ks Inv-loop μ-loop
-array-write-ks c = let s = c .before .before .before .before in omega (arith, bounds (s .args .q) (s .pre .0) .side, c .before .before .before .loop .inv .0, c .before .before .before .loop .inv .1, c .before .before .side .ensures, c .before .if1 .taken)
+array-write-ks c = let s = c .before .before .before .before in omega
+    (arith, bounds (s .args .q) (s .pre .0) .side, c .before .before .before .loop .inv .0, c .before .before .before .loop .inv .1, c .before .before .side .ensures, c .before .if1 .taken)
 
 add-j : tie.Need-add-j Inv-loop μ-loop
 add-j c = search needs

@@ -40,7 +40,8 @@ four q n (inr e) = e
 
 returns-2 : tie.Need-returns-2
 unfolding numbers raised onCurve those sector plus modulus timesX timesLow times flatMap
-returns-2 c = rw (four _ (c .before .before .before .before .if1 .left) (sizes _ (c .before .before .before .before .before .pre))) (rw (c .before .copy2 .ensures .1) refl)
+returns-2 c = rw (four _ (c .before .before .before .before .if1 .left) (sizes _ (c .before .before .before .before .before .pre)))
+    (rw (c .before .copy2 .ensures .1) refl)
 
 pub ordinates-spec : {M : Type 1} → statement M
 ordinates-spec =

@@ -8,7 +8,7 @@ use native.Mathlib.Omega.{arith}
 use lib.ListN.{length, take, drop}
 use lib.Pow.{pow-pos}
 use lib.Seq.{length-take-le}
-use Rattle.field.specs.Lists.{SymbolsAt}
+use Rattle.lists.specs.Lists.{SymbolsAt}
 use Rattle.field.specs.Arithmetic.{gf}
 use Rattle.poly.proofs.Forms.{reduce}
 use Rattle.rows.proofs.Rounds.{front-step, front-symbols}

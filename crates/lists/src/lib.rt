@@ -1,0 +1,292 @@
+// The inner loops of the layers above: a constant times a part of a slice, the same added to another part, and the products
+// of two parts, symbol by symbol. Sixteens are worked out by bits, with no table to look up, so that these loops vectorise; what
+// is left over of a list goes by the table.
+ghost use mathlib.Core.Path.{_≡_};
+ghost use mathlib.Core.Bool.{false};
+ghost use Prim.Native.Nat.{ℕ, suc, _+_, _-_, _*_, _/_, _%_, _^_, _≤_, _<_};
+ghost use lib.ListN.{length, getD};
+ghost use Rattle.patch.specs.Patch.{patch};
+ghost use Rattle.refusal.specs.Refusal.{badDegree};
+ghost use Rattle.field.specs.Symbols.{plus, modulus, timesX, timesLow, times};
+ghost use Rattle.field.specs.Tables.{IsTable, Exponent};
+ghost use Rattle.lists.specs.Combining.{doublings, combined, Short, Reducer};
+ghost use Rattle.lists.specs.Lists.{scaled, added, multiplied, SymbolsAt};
+use field::tables::LENT;
+use field::tables::exponent_from;
+use field::tables::power_from;
+use field::tables::product_from;
+use field::tables::size;
+
+// A bit times a byte.
+fn masked(bit: u8, x: u8) -> u8
+    requires { ⌜ bit < 2 ⌝ }
+    ensures { λ r. ⌜ r ≡ bit * x ⌝ }
+{
+    if bit == 0 { 0 } else { x }
+}
+
+// x^i times the symbol c, whose exponent is e.
+fn doubling(table: &[u8; LENT], degree: u32, c: u8, e: usize, i: u32) -> u8
+    requires { ⌜ badDegree degree ≡ false ⌝ }
+    requires { ⌜ IsTable degree (now table) ⌝ }
+    requires { ⌜ Exponent degree c e ⌝ }
+    ensures { λ r. ⌜ r ≡ times degree (2 ^ i) c ⌝ }
+{
+    if degree <= i {
+        return 0;
+    }
+    power_from(table, degree, i as usize + e)
+}
+
+// The doublings of a constant factor.
+fn doublings_of(table: &[u8; LENT], degree: u32, c: u8) -> [u8; 8]
+    requires { ⌜ badDegree degree ≡ false ⌝ }
+    requires { ⌜ IsTable degree (now table) ⌝ }
+    requires { ⌜ c < 2 ^ degree ⌝ }
+    ensures { λ r. ⌜ r ≡ doublings degree c ⌝ }
+{
+    if c == 0 {
+        return [0u8; 8];
+    }
+    let e = exponent_from(table, degree, c);
+    [
+        doubling(table, degree, c, e, 0),
+        doubling(table, degree, c, e, 1),
+        doubling(table, degree, c, e, 2),
+        doubling(table, degree, c, e, 3),
+        doubling(table, degree, c, e, 4),
+        doubling(table, degree, c, e, 5),
+        doubling(table, degree, c, e, 6),
+        doubling(table, degree, c, e, 7),
+    ]
+}
+
+// Four doublings combined by the four low bits of a symbol, and what the higher bits gave.
+fn combine_four(r0: u8, r1: u8, r2: u8, r3: u8, s: u8, higher: u8) -> u8
+    ensures { λ v. ⌜ v ≡ plus (s % 2 * r0) (plus (s / 2 % 2 * r1) (plus (s / 2 / 2 % 2 * r2) (plus (s / 2 / 2 / 2 % 2 * r3) higher))) ⌝ }
+{
+    let s1 = s / 2;
+    let s2 = s1 / 2;
+    let s3 = s2 / 2;
+    masked(s % 2, r0) ^ (masked(s1 % 2, r1) ^ (masked(s2 % 2, r2) ^ (masked(s3 % 2, r3) ^ higher)))
+}
+
+// The doublings combined by the bits of a symbol: by the four low ones alone where the doublings end with them.
+fn combine(degree: u32, r: &[u8; 8], s: u8) -> u8
+    requires { ⌜ Short degree (now r) ⌝ }
+    ensures { λ v. ⌜ v ≡ combined (now (r .entry)) s ⌝ }
+{
+    if degree <= 4 {
+        return combine_four(r[0], r[1], r[2], r[3], s, 0);
+    }
+    let higher = combine_four(r[4], r[5], r[6], r[7], s / 16, 0);
+    combine_four(r[0], r[1], r[2], r[3], s, higher)
+}
+
+// Adds the combined symbols of w to the part of s at `at`.
+fn add_combined(degree: u32, r: &[u8; 8], w: &[u8], s: &mut [u8], at: usize)
+    requires { ⌜ Short degree (now r) ⌝ }
+    requires { ⌜ at + length (now w) ≤ length (now s) ⌝ }
+    ensures { λ _. ⌜ now (s .exit) ≡ patch at (length (now (w .entry))) (λ k. plus (getD (now (s .entry)) (at + k) 0) (combined (now (r .entry)) (getD (now (w .entry)) k 0))) (now (s .entry)) ⌝ }
+{
+    let mut i = 0;
+    while i < w.len() {
+        s[at + i] = s[at + i] ^ combine(degree, r, w[i]);
+        i += 1;
+    }
+}
+
+// Combines the part of s at `at`, n symbols, in place.
+fn combine_all(degree: u32, r: &[u8; 8], s: &mut [u8], at: usize, n: usize)
+    requires { ⌜ Short degree (now r) ⌝ }
+    requires { ⌜ at + n ≤ length (now s) ⌝ }
+    ensures { λ _. ⌜ now (s .exit) ≡ patch at n (λ k. combined (now (r .entry)) (getD (now (s .entry)) (at + k) 0)) (now (s .entry)) ⌝ }
+{
+    let mut i = 0;
+    while i < n {
+        s[at + i] = combine(degree, r, s[at + i]);
+        i += 1;
+    }
+}
+
+// Adds c times the symbols of w to the part of s at `at`, by doublings: for lists of whole sixteens.
+fn add_sixteens(table: &[u8; LENT], degree: u32, c: u8, w: &[u8], s: &mut [u8], at: usize)
+    requires { ⌜ (badDegree degree ≡ false) × IsTable degree (now table) × (c < 2 ^ degree) ⌝ }
+    requires { ⌜ at + length (now w) ≤ length (now s) ⌝ }
+    ensures { λ _. ⌜ now (s .exit) ≡ patch at (length (now (w .entry))) (added degree c (now (w .entry)) (now (s .entry)) at) (now (s .entry)) ⌝ }
+{
+    if w.len() == 0 {
+        return;
+    }
+    let r = doublings_of(table, degree, c);
+    add_combined(degree, &r, w, s, at);
+}
+
+// The bits of a byte that a symbol has.
+fn symbol_of(degree: u32, x: u8) -> u8
+    requires { ⌜ badDegree degree ≡ false ⌝ }
+    ensures { λ r. ⌜ r ≡ x % 2 ^ degree ⌝ }
+{
+    (x as usize % size(degree)) as u8
+}
+
+// The same, from the table: quicker for a few symbols.
+fn add_few(table: &[u8; LENT], degree: u32, c: u8, w: &[u8], s: &mut [u8], at: usize)
+    requires { ⌜ (badDegree degree ≡ false) × IsTable degree (now table) × (c < 2 ^ degree) ⌝ }
+    requires { ⌜ at + length (now w) ≤ length (now s) ⌝ }
+    ensures { λ _. ⌜ now (s .exit) ≡ patch at (length (now (w .entry))) (added degree c (now (w .entry)) (now (s .entry)) at) (now (s .entry)) ⌝ }
+{
+    let mut i = 0;
+    while i < w.len() {
+        s[at + i] = s[at + i] ^ product_from(table, degree, symbol_of(degree, w[i]), c);
+        i += 1;
+    }
+}
+
+// For the crates above: adds c times the symbols of w to the part of s at `at`, quickest for lists of whole sixteens.
+pub fn add_times(table: &[u8; LENT], degree: u32, c: u8, w: &[u8], s: &mut [u8], at: usize)
+    requires { ⌜ (badDegree degree ≡ false) × IsTable degree (now table) × (c < 2 ^ degree) ⌝ }
+    requires { ⌜ at + length (now w) ≤ length (now s) ⌝ }
+    ensures { λ _. ⌜ now (s .exit) ≡ patch at (length (now (w .entry))) (added degree c (now (w .entry)) (now (s .entry)) at) (now (s .entry)) ⌝ }
+{
+    let many = w.len() / 16 * 16;
+    add_sixteens(table, degree, c, &w[..many], s, at);
+    add_few(table, degree, c, &w[many..], s, at + many);
+}
+
+// For the crates above: the part of s at `at`, n symbols, becomes c times what it was.
+pub fn scale(table: &[u8; LENT], degree: u32, c: u8, s: &mut [u8], at: usize, n: usize)
+    requires { ⌜ (badDegree degree ≡ false) × IsTable degree (now table) × (c < 2 ^ degree) ⌝ }
+    requires { ⌜ at + n ≤ length (now s) ⌝ }
+    ensures { λ _. ⌜ now (s .exit) ≡ patch at n (scaled degree c (now (s .entry)) at) (now (s .entry)) ⌝ }
+{
+    let r = doublings_of(table, degree, c);
+    combine_all(degree, &r, s, at, n);
+}
+
+// x times a symbol.
+fn double(degree: u32, half: u8, low: u8, v: u8) -> u8
+    requires { ⌜ (badDegree degree ≡ false) × Reducer degree half low × (v < 2 ^ degree) ⌝ }
+    ensures { λ r. ⌜ r ≡ timesX degree v ⌝ }
+{
+    if v < half { v << 1 } else { (v << 1) ^ low }
+}
+
+// A bit of a product: the low bit of w times s, and x times the sum of the higher ones.
+fn bit_more(degree: u32, half: u8, low: u8, w: u8, s: u8, higher: u8) -> u8
+    requires { ⌜ (badDegree degree ≡ false) × Reducer degree half low ⌝ }
+    requires { ⌜ (s < 2 ^ degree) × (higher < 2 ^ degree) ⌝ }
+    ensures { λ r. ⌜ (r ≡ plus (w % 2 * s) (timesX degree higher)) × (r < 2 ^ degree) ⌝ }
+{
+    masked(w % 2, s) ^ double(degree, half, low, higher)
+}
+
+// Four bits of a product: those of w times s, and x^4 times the sum of the higher ones.
+fn four_more(degree: u32, half: u8, low: u8, w: u8, s: u8, higher: u8) -> u8
+    requires { ⌜ (badDegree degree ≡ false) × Reducer degree half low ⌝ }
+    requires { ⌜ (s < 2 ^ degree) × (higher < 2 ^ degree) ⌝ }
+    ensures { λ r. ⌜ (r < 2 ^ degree) × ((n : ℕ) → higher ≡ timesLow degree n (w / 2 / 2 / 2 / 2) s → r ≡ timesLow degree (suc (suc (suc (suc n)))) w s) ⌝ }
+{
+    let w1 = w / 2;
+    let w2 = w1 / 2;
+    let w3 = w2 / 2;
+    let v3 = bit_more(degree, half, low, w3, s, higher);
+    let v2 = bit_more(degree, half, low, w2, s, v3);
+    let v1 = bit_more(degree, half, low, w1, s, v2);
+    bit_more(degree, half, low, w, s, v1)
+}
+
+// The product of two symbols, bit by bit.
+fn product_by_bits(degree: u32, half: u8, low: u8, w: u8, s: u8) -> u8
+    requires { ⌜ (badDegree degree ≡ false) × Reducer degree half low ⌝ }
+    requires { ⌜ (w < 2 ^ degree) × (s < 2 ^ degree) ⌝ }
+    ensures { λ r. ⌜ r ≡ times degree w s ⌝ }
+{
+    if degree <= 4 {
+        return four_more(degree, half, low, w, s, 0);
+    }
+    let higher = four_more(degree, 128, low, w / 16, s, 0);
+    four_more(degree, 128, low, w, s, higher)
+}
+
+// The polynomial without x^8, whatever its degree: what a doubling in a byte takes off.
+fn low_bits(table: &[u8; LENT], degree: u32) -> u8
+    requires { ⌜ (badDegree degree ≡ false) × IsTable degree (now table) ⌝ }
+    ensures { λ r. ⌜ r ≡ modulus degree % 256 ⌝ }
+{
+    power_from(table, degree, degree as usize) ^ (size(degree) % 256) as u8
+}
+
+// Multiplies the part of s at `at`, each symbol with b added, by the symbols of w with a added.
+fn multiply_by_bits(degree: u32, half: u8, low: u8, w: &[u8], a: u8, s: &mut [u8], at: usize, b: u8)
+    requires { ⌜ (badDegree degree ≡ false) × Reducer degree half low × (a < 2 ^ degree) × (b < 2 ^ degree) ⌝ }
+    requires { ⌜ at + length (now w) ≤ length (now s) ⌝ }
+    requires { ⌜ SymbolsAt degree (now w) 0 (length (now w)) × SymbolsAt degree (now s) at (length (now w)) ⌝ }
+    ensures { λ _. ⌜ now (s .exit) ≡ patch at (length (now (w .entry))) (multiplied degree (now (w .entry)) a (now (s .entry)) at b) (now (s .entry)) ⌝ }
+{
+    let mut i = 0;
+    while i < w.len() {
+        s[at + i] = product_by_bits(degree, half, low, w[i] ^ a, s[at + i] ^ b);
+        i += 1;
+    }
+}
+
+// The same, from the table: quicker for a few symbols.
+fn multiply_few(table: &[u8; LENT], degree: u32, w: &[u8], a: u8, s: &mut [u8], at: usize, b: u8)
+    requires { ⌜ (badDegree degree ≡ false) × IsTable degree (now table) × (a < 2 ^ degree) × (b < 2 ^ degree) ⌝ }
+    requires { ⌜ at + length (now w) ≤ length (now s) ⌝ }
+    requires { ⌜ SymbolsAt degree (now w) 0 (length (now w)) × SymbolsAt degree (now s) at (length (now w)) ⌝ }
+    ensures { λ _. ⌜ now (s .exit) ≡ patch at (length (now (w .entry))) (multiplied degree (now (w .entry)) a (now (s .entry)) at b) (now (s .entry)) ⌝ }
+{
+    let mut i = 0;
+    while i < w.len() {
+        s[at + i] = product_from(table, degree, w[i] ^ a, s[at + i] ^ b);
+        i += 1;
+    }
+}
+
+// For the crates above: the same, bit by bit, for lists of whole sixteens.
+pub fn multiply_sixteens(
+    table: &[u8; LENT],
+    degree: u32,
+    w: &[u8],
+    a: u8,
+    s: &mut [u8],
+    at: usize,
+    b: u8,
+)
+    requires { ⌜ (badDegree degree ≡ false) × IsTable degree (now table) × (a < 2 ^ degree) × (b < 2 ^ degree) ⌝ }
+    requires { ⌜ at + length (now w) ≤ length (now s) ⌝ }
+    requires { ⌜ SymbolsAt degree (now w) 0 (length (now w)) × SymbolsAt degree (now s) at (length (now w)) ⌝ }
+    ensures { λ _. ⌜ now (s .exit) ≡ patch at (length (now (w .entry))) (multiplied degree (now (w .entry)) a (now (s .entry)) at b) (now (s .entry)) ⌝ }
+{
+    let half = (size(degree) / 2) as u8;
+    let low = low_bits(table, degree);
+    multiply_by_bits(degree, half, low, w, a, s, at, b);
+}
+
+// The same, where an empty list is to cost nothing.
+fn multiply_front(table: &[u8; LENT], degree: u32, w: &[u8], a: u8, s: &mut [u8], at: usize, b: u8)
+    requires { ⌜ (badDegree degree ≡ false) × IsTable degree (now table) × (a < 2 ^ degree) × (b < 2 ^ degree) ⌝ }
+    requires { ⌜ at + length (now w) ≤ length (now s) ⌝ }
+    requires { ⌜ SymbolsAt degree (now w) 0 (length (now w)) × SymbolsAt degree (now s) at (length (now w)) ⌝ }
+    ensures { λ _. ⌜ now (s .exit) ≡ patch at (length (now (w .entry))) (multiplied degree (now (w .entry)) a (now (s .entry)) at b) (now (s .entry)) ⌝ }
+{
+    if w.len() == 0 {
+        return;
+    }
+    multiply_sixteens(table, degree, w, a, s, at, b);
+}
+
+// For the crates above: multiplies the part of s at `at`, each symbol with b added, by the symbols of w with a added; sixteens bit
+// by bit, and what is left over from the table.
+pub fn multiply(table: &[u8; LENT], degree: u32, w: &[u8], a: u8, s: &mut [u8], at: usize, b: u8)
+    requires { ⌜ (badDegree degree ≡ false) × IsTable degree (now table) × (a < 2 ^ degree) × (b < 2 ^ degree) ⌝ }
+    requires { ⌜ at + length (now w) ≤ length (now s) ⌝ }
+    requires { ⌜ SymbolsAt degree (now w) 0 (length (now w)) × SymbolsAt degree (now s) at (length (now w)) ⌝ }
+    ensures { λ _. ⌜ now (s .exit) ≡ patch at (length (now (w .entry))) (multiplied degree (now (w .entry)) a (now (s .entry)) at b) (now (s .entry)) ⌝ }
+{
+    let many = w.len() / 16 * 16;
+    multiply_front(table, degree, &w[..many], a, s, at, b);
+    multiply_few(table, degree, &w[many..], a, s, at + many, b);
+}
