@@ -1,6 +1,7 @@
 # make test      proves every crate, tries the must-fail edits, runs the programs and the C tests; ends with 'N passed, 0 failed'
 # make run       decodes the records of samples/three.bin; INPUT=file decodes another file's
-# make lib       builds target/staticlib/libfirmware.a for C callers, and the example with it, and runs that
+# make lost      decodes the first record of samples/grease.bin with columns 1 and 4 lost; INPUT=file and LOST=1,4 give others
+# make lib       builds target/staticlib/libfirmware.a for C callers, and the examples with it, and runs those
 # make compare   the library against the second program; COUNT=100000 calls, SEED=1
 # make bench     a table of the standard cases, beside a plain C decoder
 # make fuzz      arbitrary bytes for the C functions and for the record program; SECONDS_EACH=30 for each, SEED=1
@@ -9,7 +10,7 @@ INPUT ?= samples/three.bin
 COUNT ?= 100000
 SEED ?= 20261115
 SECONDS_EACH ?= 30
-.PHONY: all test run lib compare bench fuzz check fmt clean
+.PHONY: all test run lost lib compare bench fuzz check fmt clean
 
 all: test
 
@@ -18,6 +19,11 @@ test:
 
 run:
 	@tests/decode '$(INPUT)'
+
+lost: INPUT = samples/grease.bin
+lost: LOST = 1,4
+lost:
+	@tests/lost '$(INPUT)' '$(LOST)'
 
 lib:
 	@tests/example

@@ -1,7 +1,7 @@
 /* Grenhyrna: marks struck on bar ends, encoded, read and decoded. C99 and C++.
  *
  * Every function is proved to do what is said here for every input: it ends, it reads and writes nothing but the buffers lent, and
- * it needs no set-up. Link libfirmware.a (x86-64); of its host it needs memcpy and memset alone, and less than 16 KB of stack (read
+ * it needs no set-up. Link libfirmware.a (x86-64); of its host it needs memcpy and memset alone, and less than 26 KB of stack (read
  * off the compiled code, and not proved).
  *
  * A code is a field GF(2^degree), columns distinct points (one a column), and rows message lengths k (one a row), each from 1 to
@@ -31,6 +31,22 @@
  * touched. The trial limit may go up to the joint limit, the smaller of (rows·columns − K)/(rows + 1) rounded down and
  * columns − k_max. At the safe limit (columns − k_max)/2 rounded down, or below, any ending but "corrected" and "refused" means that
  * no code array is within the limit.
+ *
+ * DECODING WITH LOST COLUMNS takes a list of them besides, a byte a column, in any order; a ring's list names sectors, from 0. The
+ * ending and its detail are those of the array made of the remaining columns, in their order, with their points, and both limits
+ * are worked out with the number of remaining columns in place of columns. What was received in a lost column has no influence,
+ * but must lie in the field. Received, answer and flags have the lengths that they have without a list:
+ *
+ *   code              detail                      answer and flags
+ *   GREN_REFUSED 0    number of the refusal       as they were; the working space too
+ *   GREN_CORRECTED 1  number of wrong columns     written: the whole array, the lost columns filled from the rows found, and a flag
+ *                     among the remaining         a column: GREN_LOST (2) at each lost column, whatever was received there; at the
+ *                                                 others 1 where it was wrong and 0 elsewhere
+ *   GREN_NONE 2       0                           as they were
+ *   GREN_SEVERAL 3    size of the locators        as they were
+ *   GREN_HOLLOW 4     size of the locator         as they were
+ *
+ * With nothing lost it is the decoding above. The working space is as in decoding.
  */
 #ifndef GRENHYRNA_H
 #define GRENHYRNA_H
@@ -65,8 +81,12 @@ static inline uint32_t gren_detail(uint32_t answer)
     return answer % 256;
 }
 
-/* The numbers of the refusals, in the order of checking: the first that applies is the answer. Marks check 1 to 7, then reading 9
- * and decoding 8; rings check 10, 11, 5, 7, then reading 9 and decoding 8. */
+/* A column's flag after "corrected". */
+enum { GREN_RIGHT = 0, GREN_WRONG = 1, GREN_LOST = 2 };
+
+/* The numbers of the refusals: the first that applies, in the order of checking, is the answer. Marks check 1 to 7, then reading 9
+ * and decoding 8; rings check 10, 11, 5, 7, then reading 9 and decoding 8. With lost columns 16 and 17 come after 7 and before 8;
+ * 4, 5, 6 and 7 read all columns, lost or not, and 8 the remaining ones. */
 enum {
     GREN_BAD_DEGREE = 1,     /* degree is not 2, 4 or 8 */
     GREN_BAD_ROWS = 2,       /* count of the lengths is not 1 to 4 */
@@ -76,10 +96,12 @@ enum {
                                 GREN_SPACE */
     GREN_BAD_POINT = 6,      /* a point is outside the field or stood earlier in the list */
     GREN_BAD_SYMBOL = 7,     /* a symbol is outside the field */
-    GREN_BAD_LIMIT = 8,      /* the trial limit is above the joint limit */
+    GREN_BAD_LIMIT = 8,      /* the trial limit is above the joint limit, with lost columns that of the remaining columns */
     GREN_NO_CODE_ARRAY = 9,  /* reading: not a code array */
     GREN_BAD_Q = 10,         /* q is not 2 or 4 */
-    GREN_BAD_M = 11          /* m is not q²−1 to q³−1 */
+    GREN_BAD_M = 11,         /* m is not q²−1 to q³−1 */
+    GREN_BAD_LOST = 16,      /* a lost column is not below the number of columns or is named twice */
+    GREN_TOO_MANY_LOST = 17  /* fewer remaining columns than the largest k */
 };
 
 /* Writes the code array of a message. */
@@ -95,6 +117,12 @@ uint32_t gren_mark_decode(uint32_t degree, const uint8_t *lengths, size_t rows, 
                           uint32_t limit, const uint8_t *received, size_t received_length, uint8_t *answer, size_t answer_length,
                           uint8_t *flags, size_t flags_length, uint8_t *space, size_t space_length);
 
+/* Decodes a received array some of whose columns are lost. */
+uint32_t gren_mark_decode_lost(uint32_t degree, const uint8_t *lengths, size_t rows, const uint8_t *points, size_t columns,
+                               uint32_t limit, const uint8_t *lost, size_t lost_count, const uint8_t *received,
+                               size_t received_length, uint8_t *answer, size_t answer_length, uint8_t *flags, size_t flags_length,
+                               uint8_t *space, size_t space_length);
+
 /* Writes the word of H(m) of a message. */
 uint32_t gren_ring_encode(uint32_t q, uint32_t m, const uint8_t *message, size_t message_length, uint8_t *word,
                           size_t word_length);
@@ -105,6 +133,11 @@ uint32_t gren_ring_read(uint32_t q, uint32_t m, const uint8_t *word, size_t word
 /* Decodes a received ring up to the trial limit, by sectors: columns above are sectors here. */
 uint32_t gren_ring_decode(uint32_t q, uint32_t m, uint32_t limit, const uint8_t *received, size_t received_length, uint8_t *answer,
                           size_t answer_length, uint8_t *flags, size_t flags_length, uint8_t *space, size_t space_length);
+
+/* Decodes a received ring some of whose sectors are lost. */
+uint32_t gren_ring_decode_lost(uint32_t q, uint32_t m, uint32_t limit, const uint8_t *lost, size_t lost_count,
+                               const uint8_t *received, size_t received_length, uint8_t *answer, size_t answer_length,
+                               uint8_t *flags, size_t flags_length, uint8_t *space, size_t space_length);
 
 #ifdef __cplusplus
 }

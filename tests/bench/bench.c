@@ -15,28 +15,30 @@
 
 struct test {
     const char *name;
-    char kind; /* d: decode, e: encode, r: read, h: decode a ring */
-    unsigned degree, columns, rows, lengths[4], wrong;
+    char kind; /* d: decode, e: encode, r: read, h: decode a ring; D and H: with lost columns */
+    unsigned degree, columns, rows, lengths[4], wrong, lost;
 };
 
 static const struct test tests[] = {
-    {"GF(16) n 16 k 10 9 7 6, 0 wrong", 'd', 4, 16, 4, {10, 9, 7, 6}, 0},
-    {"GF(16) n 16 k 10 9 7 6, 3 wrong", 'd', 4, 16, 4, {10, 9, 7, 6}, 3},
-    {"GF(16) n 16 k 10 9 7 6, 6 wrong", 'd', 4, 16, 4, {10, 9, 7, 6}, 6},
-    {"GF(256) n 96 k 64, 0 wrong", 'd', 8, 96, 1, {64}, 0},
-    {"GF(256) n 96 k 64, 16 wrong", 'd', 8, 96, 1, {64}, 16},
-    {"GF(256) n 96 k 64 x4, 0 wrong", 'd', 8, 96, 4, {64, 64, 64, 64}, 0},
-    {"GF(256) n 96 k 64 x4, 25 wrong", 'd', 8, 96, 4, {64, 64, 64, 64}, 25},
-    {"GF(256) n 96 k 32 x4, 0 wrong", 'd', 8, 96, 4, {32, 32, 32, 32}, 0},
-    {"GF(256) n 96 k 32 x4, 51 wrong", 'd', 8, 96, 4, {32, 32, 32, 32}, 51},
-    {"ring H(37), 0 wrong sectors", 'h', 4, 16, 4, {10, 9, 7, 6}, 0},
-    {"ring H(37), 3 wrong sectors", 'h', 4, 16, 4, {10, 9, 7, 6}, 3},
-    {"ring H(37), 6 wrong sectors", 'h', 4, 16, 4, {10, 9, 7, 6}, 6},
-    {"encode GF(256) n 96 k 64 x4", 'e', 8, 96, 4, {64, 64, 64, 64}, 0},
-    {"read GF(256) n 96 k 64 x4", 'r', 8, 96, 4, {64, 64, 64, 64}, 0},
+    {"GF(16) n 16 k 10 9 7 6, 0 wrong", 'd', 4, 16, 4, {10, 9, 7, 6}, 0, 0},
+    {"GF(16) n 16 k 10 9 7 6, 3 wrong", 'd', 4, 16, 4, {10, 9, 7, 6}, 3, 0},
+    {"GF(16) n 16 k 10 9 7 6, 6 wrong", 'd', 4, 16, 4, {10, 9, 7, 6}, 6, 0},
+    {"GF(256) n 96 k 64, 0 wrong", 'd', 8, 96, 1, {64}, 0, 0},
+    {"GF(256) n 96 k 64, 16 wrong", 'd', 8, 96, 1, {64}, 16, 0},
+    {"GF(256) n 96 k 64 x4, 0 wrong", 'd', 8, 96, 4, {64, 64, 64, 64}, 0, 0},
+    {"GF(256) n 96 k 64 x4, 25 wrong", 'd', 8, 96, 4, {64, 64, 64, 64}, 25, 0},
+    {"GF(256) n 96 k 32 x4, 0 wrong", 'd', 8, 96, 4, {32, 32, 32, 32}, 0, 0},
+    {"GF(256) n 96 k 32 x4, 51 wrong", 'd', 8, 96, 4, {32, 32, 32, 32}, 51, 0},
+    {"ring H(37), 0 wrong sectors", 'h', 4, 16, 4, {10, 9, 7, 6}, 0, 0},
+    {"ring H(37), 3 wrong sectors", 'h', 4, 16, 4, {10, 9, 7, 6}, 3, 0},
+    {"ring H(37), 6 wrong sectors", 'h', 4, 16, 4, {10, 9, 7, 6}, 6, 0},
+    {"encode GF(256) n 96 k 64 x4", 'e', 8, 96, 4, {64, 64, 64, 64}, 0, 0},
+    {"read GF(256) n 96 k 64 x4", 'r', 8, 96, 4, {64, 64, 64, 64}, 0, 0},
+    {"GF(256) n 96 k 64 x4, 16 lost, 12 wrong", 'D', 8, 96, 4, {64, 64, 64, 64}, 12, 16},
+    {"ring H(37), 4 sectors lost, 2 wrong", 'H', 4, 16, 4, {10, 9, 7, 6}, 2, 4},
 };
 
-static uint8_t lengths[4], points[96], message[384], array[384], ring[64], answer[384], flags[96], space[GREN_SPACE];
+static uint8_t lengths[4], points[96], lost[96], message[384], array[384], ring[64], answer[384], flags[96], space[GREN_SPACE];
 
 static struct test t;
 static size_t total, symbols;
@@ -58,6 +60,14 @@ static double seconds(void)
     return (double)now.tv_sec + (double)now.tv_nsec / 1e9;
 }
 
+static void damage(size_t column)
+{
+    for (size_t l = 0; l < t.rows; l++) {
+        array[l * t.columns + column] ^= (uint8_t)(1 + below((1u << t.degree) - 1));
+        ring[4 * column % 64 + l] ^= (uint8_t)(1 + below(15));
+    }
+}
+
 static int run(unsigned long count)
 {
     uint32_t got = expected;
@@ -72,6 +82,13 @@ static int run(unsigned long count)
         else if (t.kind == 'e')
             got = own ? gren_mark_encode(t.degree, lengths, t.rows, points, t.columns, message, total, answer, symbols)
                       : (plain_encode(lengths, t.rows, points, t.columns, message, answer), 256u);
+        else if (t.kind == 'D')
+            got = own ? gren_mark_decode_lost(t.degree, lengths, t.rows, points, t.columns, limit, lost, t.lost, array, symbols,
+                                              answer, symbols, flags, t.columns, space, sizeof space)
+                      : plain_decode_lost(lengths, t.rows, points, t.columns, limit, lost, t.lost, array, answer, flags);
+        else if (t.kind == 'H')
+            got = own ? gren_ring_decode_lost(4, 37, limit, lost, t.lost, ring, 64, answer, 64, flags, 16, space, sizeof space)
+                      : plain_decode_lost(lengths, t.rows, points, t.columns, limit, lost, t.lost, array, answer, flags);
         else
             got = own ? gren_mark_read(t.degree, lengths, t.rows, points, t.columns, array, symbols, answer, total)
                       : plain_read(lengths, t.rows, points, t.columns, array, answer) ? 256u
@@ -108,18 +125,16 @@ int main(int argc, char **argv)
         message[i] = (uint8_t)below(1u << t.degree);
     plain_field(t.degree);
     plain_encode(lengths, t.rows, points, t.columns, message, array);
-    if (t.kind == 'h')
+    if (t.kind == 'h' || t.kind == 'H')
         gren_ring_encode(4, 37, message, total, ring, 64);
-    for (size_t w = 0; w < t.wrong; w++) {
-        size_t column = w * t.columns / t.wrong;
-        for (size_t l = 0; l < t.rows; l++) {
-            array[l * t.columns + column] ^= (uint8_t)(1 + below((1u << t.degree) - 1));
-            ring[4 * column % 64 + l] ^= (uint8_t)(1 + below(15));
-        }
-    }
-    limit = (uint32_t)((symbols - total) / (t.rows + 1)), expected = 256 + t.wrong;
-    if (limit > t.columns - lengths[0])
-        limit = t.columns - lengths[0];
+    for (size_t w = 0; w < t.wrong; w++)
+        damage(w * t.columns / t.wrong + (t.lost > 0)); /* beside the lost columns */
+    for (size_t w = 0; w < t.lost; w++)
+        damage(lost[w] = (uint8_t)(w * t.columns / t.lost));
+    size_t remaining = t.columns - t.lost;
+    limit = (uint32_t)((t.rows * remaining - total) / (t.rows + 1)), expected = 256 + t.wrong;
+    if (limit > remaining - lengths[0])
+        limit = (uint32_t)(remaining - lengths[0]);
     if (strcmp(argv[3], "time"))
         return run(count);
     for (count = 16;; count *= 2) {

@@ -45,6 +45,15 @@ static void reduce(const uint8_t *points, size_t columns, size_t k, uint8_t *u)
             u[i] = quotient(u[i] ^ u[j], points[i] ^ points[j]);
 }
 
+/* The value at x of the polynomial that has Newton's coefficients u at these points. */
+static inline uint8_t newton(const uint8_t *points, size_t k, const uint8_t *u, uint8_t x)
+{
+    uint8_t v = 0;
+    while (k--)
+        v = product(v, x ^ points[k]) ^ u[k];
+    return v;
+}
+
 void plain_encode(const uint8_t *lengths, size_t rows, const uint8_t *points, size_t columns, const uint8_t *message,
                   uint8_t *array)
 {
@@ -163,14 +172,42 @@ uint32_t plain_decode(const uint8_t *lengths, size_t rows, const uint8_t *points
         for (size_t i = 0; i < k; i++)
             symbols[i] = received[l * columns + good[i]];
         reduce(nodes, k, k, symbols);
-        for (size_t b = 0; b < bad; b++) {
-            uint8_t v = 0;
-            for (size_t j = k; j-- > 0;)
-                v = product(v, points[wrong[b]] ^ nodes[j]) ^ symbols[j];
-            answer[l * columns + wrong[b]] = v;
-        }
+        for (size_t b = 0; b < bad; b++)
+            answer[l * columns + wrong[b]] = newton(nodes, k, symbols, points[wrong[b]]);
     }
     for (size_t b = 0; b < bad; b++)
         flags[wrong[b]] = 1;
     return 256 + t;
+}
+
+uint32_t plain_decode_lost(const uint8_t *lengths, size_t rows, const uint8_t *points, size_t columns, uint32_t limit,
+                           const uint8_t *lost, size_t lost_count, const uint8_t *received, uint8_t *answer, uint8_t *flags)
+{
+    static uint8_t at[96], xs[96], ys[MOST], found[MOST], wrong[96];
+    size_t remaining = 0;
+    memset(flags, 0, columns);
+    for (size_t i = 0; i < lost_count; i++)
+        flags[lost[i]] = 2;
+    for (size_t i = 0; i < columns; i++)
+        if (!flags[i]) {
+            at[remaining] = (uint8_t)i;
+            xs[remaining++] = points[i];
+        }
+    for (size_t l = 0; l < rows; l++)
+        for (size_t i = 0; i < remaining; i++)
+            ys[l * remaining + i] = received[l * columns + at[i]];
+    uint32_t ending = plain_decode(lengths, rows, xs, remaining, limit, ys, found, wrong);
+    if (ending / 256 != 1)
+        return ending;
+    for (size_t l = 0; l < rows; l++) {
+        uint8_t *row = found + l * remaining;
+        for (size_t i = 0; i < remaining; i++)
+            answer[l * columns + at[i]] = row[i];
+        reduce(xs, lengths[l], lengths[l], row);
+        for (size_t i = 0; i < lost_count; i++)
+            answer[l * columns + lost[i]] = newton(xs, lengths[l], row, points[lost[i]]);
+    }
+    for (size_t i = 0; i < remaining; i++)
+        flags[at[i]] = wrong[i];
+    return ending;
 }

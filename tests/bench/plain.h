@@ -9,4 +9,6 @@ void plain_encode(const uint8_t *lengths, size_t rows, const uint8_t *points, si
 int plain_read(const uint8_t *lengths, size_t rows, const uint8_t *points, size_t columns, const uint8_t *array, uint8_t *message);
 uint32_t plain_decode(const uint8_t *lengths, size_t rows, const uint8_t *points, size_t columns, uint32_t limit,
                       const uint8_t *received, uint8_t *answer, uint8_t *flags);
+uint32_t plain_decode_lost(const uint8_t *lengths, size_t rows, const uint8_t *points, size_t columns, uint32_t limit,
+                           const uint8_t *lost, size_t lost_count, const uint8_t *received, uint8_t *answer, uint8_t *flags);
 #endif

@@ -16,7 +16,7 @@
 #include <time.h>
 #include <unistd.h>
 
-enum { LENGTHS, POINTS, INPUT, RESULT, FLAGS, SPACE, BUFFERS };
+enum { LENGTHS, POINTS, LOST, INPUT, RESULT, FLAGS, SPACE, BUFFERS };
 
 static struct buffer {
     uint8_t *room, *at, *copy;
@@ -84,26 +84,47 @@ static size_t any_length(size_t right, size_t most)
     return length <= most ? length : most;
 }
 
-static unsigned long ends[5], refused, done;
+static unsigned long ends[2][5], refused, done;
 
-static int decoded(uint32_t r)
+static int only_read(void)
+{
+    return as_lent(INPUT) && as_lent(POINTS) && as_lent(LENGTHS) && as_lent(LOST);
+}
+
+/* Each lost column has the flag 2, and as many of the others have 1 as are wrong; the rest have 0. */
+static int flagged(uint32_t wrong)
+{
+    const struct buffer *flags = &buffers[FLAGS], *lost = &buffers[LOST];
+    uint32_t ones = 0;
+    for (size_t i = 0; i < flags->length; i++) {
+        int gone = memchr(lost->at, (int)i, lost->length) != NULL;
+        if (gone ? flags->at[i] != GREN_LOST : flags->at[i] > 1)
+            return 0;
+        ones += flags->at[i] == 1;
+    }
+    return ones == wrong;
+}
+
+static int decoded(int with_list, uint32_t r)
 {
     uint32_t code = gren_code(r), detail = gren_detail(r);
-    int ok = code <= GREN_HOLLOW && inside(RESULT) && inside(FLAGS) && as_lent(INPUT) && as_lent(POINTS) && as_lent(LENGTHS);
+    int ok = code <= GREN_HOLLOW && inside(RESULT) && inside(FLAGS) && only_read();
     if (code == GREN_REFUSED)
-        ok &= detail >= 1 && detail <= 11 && detail != 9 && as_lent(SPACE);
+        ok &= ((detail >= 1 && detail <= 11 && detail != 9) || (with_list && (detail == 16 || detail == 17))) && as_lent(SPACE);
     else
         ok &= space_cleared();
-    if (code != GREN_CORRECTED)
+    if (code == GREN_CORRECTED)
+        ok &= flagged(detail);
+    else
         ok &= as_lent(RESULT) && as_lent(FLAGS);
     if (ok)
-        ends[code]++;
+        ends[with_list][code]++;
     return ok;
 }
 
 static int coded(uint32_t r)
 {
-    int ok = (r == GREN_DONE || (r >= 1 && r <= 11 && r != 8)) && as_lent(INPUT) && as_lent(POINTS) && as_lent(LENGTHS);
+    int ok = (r == GREN_DONE || (r >= 1 && r <= 11 && r != 8)) && only_read();
     ok &= r == GREN_DONE ? inside(RESULT) : as_lent(RESULT);
     if (ok && r == GREN_DONE)
         done++;
@@ -115,6 +136,17 @@ static int coded(uint32_t r)
 static uint32_t any_number(uint32_t usual)
 {
     return chance(15) ? (chance(2) ? below(600) : next()) : usual;
+}
+
+/* Bytes for a list of lost columns, most of them a list that names none twice. */
+static void lay_lost(int with_list, size_t columns)
+{
+    struct buffer *lost = &buffers[LOST];
+    lay(LOST, with_list ? any_length(below((unsigned)columns / (chance(2) ? 1 : 4) + 1), 300) : 0, (unsigned)columns);
+    int falling = chance(2);
+    for (size_t i = 0; i < lost->length && !chance(60); i++)
+        lost->at[i] = (uint8_t)(falling ? columns - 1 - i : i);
+    memcpy(lost->copy, lost->room, lost->size);
 }
 
 static int mark(int call)
@@ -137,6 +169,7 @@ static int mark(int call)
     memcpy(ks->copy, ks->room, ks->size);
     size_t cells = rows * columns;
     uint32_t asked = any_number(degree);
+    lay_lost(call == 3, columns);
     if (call == 0) {
         lay(INPUT, any_length(total, 1000), symbols);
         lay(RESULT, any_length(cells, 1000), 256);
@@ -150,9 +183,13 @@ static int mark(int call)
     lay(RESULT, any_length(cells, 1000), 256);
     lay(FLAGS, any_length(columns, 300), 256);
     lay(SPACE, chance(12) ? below(16 * 4096) : GREN_SPACE + below(100), 256);
-    return decoded(gren_mark_decode(asked, ks->at, ks->length, xs->at, xs->length, any_number(below((unsigned)columns)), y->at,
-                                    y->length, a->at, a->length, buffers[FLAGS].at, buffers[FLAGS].length, buffers[SPACE].at,
-                                    buffers[SPACE].length));
+    uint32_t limit = any_number(below((unsigned)columns));
+    if (call == 2)
+        return decoded(0, gren_mark_decode(asked, ks->at, ks->length, xs->at, xs->length, limit, y->at, y->length, a->at, a->length,
+                                           buffers[FLAGS].at, buffers[FLAGS].length, buffers[SPACE].at, buffers[SPACE].length));
+    return decoded(1, gren_mark_decode_lost(asked, ks->at, ks->length, xs->at, xs->length, limit / 2, buffers[LOST].at,
+                                            buffers[LOST].length, y->at, y->length, a->at, a->length, buffers[FLAGS].at,
+                                            buffers[FLAGS].length, buffers[SPACE].at, buffers[SPACE].length));
 }
 
 static int ring(int call)
@@ -163,6 +200,7 @@ static int ring(int call)
         total += (m - j * (q + 1)) / q + 1;
     lay(LENGTHS, 0, 1);
     lay(POINTS, 0, 1);
+    lay_lost(call == 3, q * q);
     struct buffer *y = &buffers[INPUT], *a = &buffers[RESULT];
     uint32_t asked = any_number(q), order = any_number(m);
     lay(INPUT, any_length(call == 0 ? total : size, 300), chance(3) ? 1 : q * q);
@@ -173,8 +211,13 @@ static int ring(int call)
         return coded(gren_ring_read(asked, order, y->at, y->length, a->at, a->length));
     lay(FLAGS, any_length(q * q, 300), 256);
     lay(SPACE, chance(12) ? below(16 * 4096) : GREN_SPACE + below(100), 256);
-    return decoded(gren_ring_decode(asked, order, any_number(below(8)), y->at, y->length, a->at, a->length, buffers[FLAGS].at,
-                                    buffers[FLAGS].length, buffers[SPACE].at, buffers[SPACE].length));
+    uint32_t limit = any_number(below(8));
+    if (call == 2)
+        return decoded(0, gren_ring_decode(asked, order, limit, y->at, y->length, a->at, a->length, buffers[FLAGS].at,
+                                           buffers[FLAGS].length, buffers[SPACE].at, buffers[SPACE].length));
+    return decoded(1, gren_ring_decode_lost(asked, order, limit / 2, buffers[LOST].at, buffers[LOST].length, y->at, y->length, a->at,
+                                            a->length, buffers[FLAGS].at, buffers[FLAGS].length, buffers[SPACE].at,
+                                            buffers[SPACE].length));
 }
 
 static int calls(double seconds, unsigned long seed)
@@ -185,7 +228,7 @@ static int calls(double seconds, unsigned long seed)
     clock_gettime(CLOCK_MONOTONIC, &began);
     do {
         for (int i = 0; i < 100; i++, n++) {
-            int call = (int)below(3);
+            int call = (int)below(4);
             if (!(chance(3) ? ring(call) : mark(call))) {
                 printf("fuzz: seed %lu, call %lu: a number or a buffer is not as promised\n", seed, n);
                 return 1;
@@ -193,9 +236,12 @@ static int calls(double seconds, unsigned long seed)
         }
         clock_gettime(CLOCK_MONOTONIC, &now);
     } while ((double)(now.tv_sec - began.tv_sec) + (double)(now.tv_nsec - began.tv_nsec) / 1e9 < seconds);
-    printf("fuzz: seed %lu: %lu calls: %lu done, %lu refused; of the decodings %lu corrected, %lu none, %lu several, %lu hollow, "
-           "%lu refused\n",
-           seed, n, done, refused, ends[1], ends[2], ends[3], ends[4], ends[0]);
+    printf("fuzz: seed %lu: %lu calls: %lu done, %lu refused\n", seed, n, done, refused);
+    for (int with_list = 0; with_list < 2; with_list++) {
+        unsigned long *e = ends[with_list];
+        printf("fuzz: decodings with %s: %lu corrected, %lu none, %lu several, %lu hollow, %lu refused\n",
+               with_list ? "lost columns" : "no list", e[1], e[2], e[3], e[4], e[0]);
+    }
     return 0;
 }
 

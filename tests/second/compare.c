@@ -1,7 +1,8 @@
-/* Compares the static library with the second program over many random calls: all fields, lengths, limits, endings and refusals.
- * Every buffer has guard bytes around it; what a call must not change is compared byte by byte, and so is the working space.
+/* Compares the static library with the second program over many random calls: all fields, lengths, limits, endings and refusals,
+ * and lists of lost columns. Every buffer has guard bytes around it; what a call must not change is compared byte by byte, and so is
+ * the working space.
  *
- *   compare [COUNT [SEED]]
+ *   compare [COUNT [SEED]]    COUNT calls, and half as many with lost columns
  */
 #include "grenhyrna.h"
 #include "random.h"
@@ -39,10 +40,13 @@ static void both(struct buffer *b)
     memcpy(b->all[1], b->all[0], sizeof b->all[0]);
 }
 
-static struct buffer lengths, points, first, second, flags;
+/* Calls whose endings are counted apart. */
+enum { MARKS, RINGS, LOST_MARKS, LOST_RINGS, KINDS };
+
+static struct buffer lengths, points, lost, first, second, flags;
 static uint8_t space[2][GUARD + SECOND_SPACE + SPARE + GUARD];
 static size_t space_length;
-static unsigned long endings[2][5], refusals[32], done;
+static unsigned long endings[KINDS][5], refusals[KINDS][32], done;
 
 static void fill_space(void)
 {
@@ -54,9 +58,9 @@ static void fill_space(void)
 
 static int same(const char *what, uint32_t a, uint32_t b)
 {
-    struct buffer *buffers[] = {&lengths, &points, &first, &second, &flags};
+    struct buffer *buffers[] = {&lengths, &points, &lost, &first, &second, &flags};
     int ok = a == b;
-    for (size_t i = 0; i < 5; i++)
+    for (size_t i = 0; i < sizeof buffers / sizeof *buffers; i++)
         ok &= !memcmp(buffers[i]->all[0], buffers[i]->all[1], sizeof buffers[i]->all[0]);
     ok &= !memcmp(space[0], space[1], sizeof space[0]);
     if (!ok)
@@ -64,19 +68,19 @@ static int same(const char *what, uint32_t a, uint32_t b)
     return ok;
 }
 
-static void count_decoding(int ring, uint32_t answer)
+static void count_decoding(int kind, uint32_t answer)
 {
-    endings[ring][gren_code(answer)]++;
+    endings[kind][gren_code(answer)]++;
     if (gren_code(answer) == GREN_REFUSED)
-        refusals[gren_detail(answer)]++;
+        refusals[kind][gren_detail(answer)]++;
 }
 
-static void count_result(uint32_t answer)
+static void count_result(int kind, uint32_t answer)
 {
     if (answer == GREN_DONE)
         done++;
     else
-        refusals[answer]++;
+        refusals[kind][answer]++;
 }
 
 /* A code, nearly always a valid one; the degree is answered. */
@@ -160,7 +164,7 @@ static int compare_mark_coding(void)
     fill(&second, spoil_length(rows * columns), 256);
     fill_space();
     a = encode_both(degree, rows, columns, &b);
-    count_result(a);
+    count_result(MARKS, a);
     if (!same("encoding", a, b))
         return 0;
     if (a != GREN_DONE)
@@ -177,7 +181,7 @@ static int compare_mark_coding(void)
                        first.length);
     b = second_mark_read(degree, own(&lengths, 1), rows, own(&points, 1), columns, own(&second, 1), second.length, own(&first, 1),
                          first.length);
-    count_result(a);
+    count_result(MARKS, a);
     return same("reading", a, b);
 }
 
@@ -223,7 +227,7 @@ static int compare_mark_decoding(void)
                          own(&first, 0), first.length, own(&flags, 0), flags.length, space[0] + GUARD, space_length);
     b = second_mark_decode(degree, own(&lengths, 1), rows, own(&points, 1), columns, limit, own(&second, 1), second.length,
                            own(&first, 1), first.length, own(&flags, 1), flags.length, space[1] + GUARD, space_length);
-    count_decoding(0, a);
+    count_decoding(MARKS, a);
     return same("decoding", a, b);
 }
 
@@ -249,7 +253,7 @@ static int compare_ring(void)
     fill(&second, spoil_length(size), 256);
     a = gren_ring_encode(q, m, own(&first, 0), first.length, own(&second, 0), second.length);
     b = second_ring_encode(q, m, own(&first, 1), first.length, own(&second, 1), second.length);
-    count_result(a);
+    count_result(RINGS, a);
     if (!same("encoding a ring", a, b))
         return 0;
     if (a != GREN_DONE)
@@ -266,7 +270,7 @@ static int compare_ring(void)
     fill(&first, spoil_length(total), 256);
     a = gren_ring_read(q, m, own(&second, 0), second.length, own(&first, 0), first.length);
     b = second_ring_read(q, m, own(&second, 1), second.length, own(&first, 1), first.length);
-    count_result(a);
+    count_result(RINGS, a);
     if (!same("reading a ring", a, b))
         return 0;
     fill(&first, spoil_length(size), 256);
@@ -275,41 +279,322 @@ static int compare_ring(void)
                          space[0] + GUARD, space_length);
     b = second_ring_decode(q, m, limit, own(&second, 1), second.length, own(&first, 1), first.length, own(&flags, 1), flags.length,
                            space[1] + GUARD, space_length);
-    count_decoding(1, a);
+    count_decoding(RINGS, a);
     return same("decoding a ring", a, b);
+}
+
+/* ---- lost columns */
+
+/* What a list of lost columns is like; the first six are good where the largest k allows. */
+enum { EMPTY, FRONT, BACK, ANY_ORDER, FALLING, ALL_BUT_LARGEST, TOO_MANY, TWICE, OUT_OF_RANGE, ALL, TOO_LONG, SHAPES };
+static const char *const shapes[] = {"empty",    "the first", "the last",     "any order", "falling", "all but k_max",
+                                     "too many", "twice",     "out of range", "all",       "too long"};
+
+/* How many lists were looked at, no earlier check having refused the call, and what came of them. */
+static unsigned long looked_at[SHAPES], tight_calls, nothing_wrong, bad_where_lost;
+
+static void exchange(uint8_t *a, uint8_t *b)
+{
+    uint8_t kept = *a;
+    *a = *b;
+    *b = kept;
+}
+
+static void shuffle(uint8_t *list, size_t count)
+{
+    for (size_t i = count; i > 1; i--)
+        exchange(list + i - 1, list + below((unsigned)i));
+}
+
+static void sort_falling(uint8_t *list, size_t count)
+{
+    for (size_t i = 1; i < count; i++)
+        for (size_t j = i; j && list[j - 1] < list[j]; j--)
+            exchange(list + j, list + j - 1);
+}
+
+/* Lays a list of lost columns, `most` of which may be lost; answers its shape. */
+static int random_lost(size_t columns, size_t most)
+{
+    static uint8_t order[ROOM];
+    size_t count = below((unsigned)most + 1);
+    int shape = chance(5) ? (int)(TOO_MANY + below(SHAPES - TOO_MANY)) : (int)below(TOO_MANY);
+    for (size_t i = 0; i < ROOM; i++)
+        order[i] = (uint8_t)(columns ? i % columns : i);
+    if (shape != FRONT && shape != BACK)
+        shuffle(order, columns);
+    switch (shape) {
+    case EMPTY: count = 0; break;
+    case BACK: memmove(order, order + columns - count, count); break;
+    case FALLING: sort_falling(order, count); break;
+    case ALL_BUT_LARGEST: count = most; break;
+    case TOO_MANY: count = most + 1 + below((unsigned)(columns - most)); break;
+    case TWICE:
+        count += count < 2 ? 2 : 0;
+        order[below((unsigned)count - 1)] = order[count - 1];
+        break;
+    case OUT_OF_RANGE:
+        count += !count;
+        order[below((unsigned)count)] = (uint8_t)(chance(3) ? columns : chance(2) ? 255 : columns + below(256 - (unsigned)columns));
+        break;
+    case ALL: count = columns; break;
+    case TOO_LONG: count = columns + 1 + below(chance(2) ? 4 : ROOM - 128); break;
+    default: break;
+    }
+    count = count < ROOM ? count : ROOM;
+    fill(&lost, count, 256);
+    memcpy(own(&lost, 0), order, count);
+    both(&lost);
+    return shape;
+}
+
+static int is_lost(size_t column)
+{
+    return memchr(own(&lost, 0), (int)column, lost.length) != NULL;
+}
+
+/* The number of remaining columns where the list is good and leaves enough, and else 0. */
+static size_t remaining(size_t columns, size_t most)
+{
+    size_t count = 0;
+    for (size_t i = 0; i < columns; i++)
+        count += is_lost(i);
+    return count == lost.length && count <= most ? columns - count : 0;
+}
+
+/* A limit up to the joint limit over the remaining columns, or just above it, or any. */
+static uint32_t random_limit(const uint8_t *ks, size_t rows, size_t left)
+{
+    unsigned joint = left ? second_joint_limit(ks, rows, left) : below(4);
+    uint32_t limit = chance(2) ? joint : below(joint + 1);
+    if (left > 20 && limit > 3)
+        limit = 1 + below(3);
+    return chance(25) ? joint + 1 : chance(50) ? joint + 1 + below(300) : limit;
+}
+
+/* Random symbols in the lost columns, and wrong ones in some of the others; the symbol of row l and column i is at
+ * l · down + i · across. */
+static void damage(size_t rows, size_t columns, size_t down, size_t across, uint32_t limit, unsigned symbols)
+{
+    unsigned most = limit < 96 ? limit : 96;
+    unsigned wrong = chance(4) ? 0 : chance(5) ? below((unsigned)columns + 1) : chance(2) ? most + 1 : below(most + 2);
+    for (size_t i = 0; i < columns; i++)
+        for (size_t l = 0; l < rows && is_lost(i); l++)
+            own(&second, 0)[l * down + i * across] = (uint8_t)below(symbols);
+    for (; wrong; wrong--) {
+        size_t i = below((unsigned)columns);
+        for (size_t l = 0; l < rows && !is_lost(i); l++)
+            if (chance(2))
+                own(&second, 0)[l * down + i * across] = (uint8_t)below(symbols);
+    }
+    if (chance(4))
+        for (size_t i = 0; i < rows * columns; i++)
+            own(&second, 0)[i] = (uint8_t)below(symbols);
+    both(&second);
+}
+
+/* A symbol outside the field, now and then, half of them in a lost column; answers whether it is in one. */
+static int spoil_received(size_t rows, size_t columns, size_t down, size_t across, unsigned symbols)
+{
+    if (!chance(30) || !rows || !columns || symbols > 128)
+        return 0;
+    size_t i = lost.length && chance(2) ? own(&lost, 0)[below((unsigned)lost.length)] : below((unsigned)columns);
+    if (i >= columns)
+        return 0;
+    own(&second, 0)[below((unsigned)rows) * down + i * across] = (uint8_t)(symbols + below(256 - symbols));
+    both(&second);
+    return is_lost(i);
+}
+
+/* What both calls with lost columns take, and what is counted of them. */
+struct call {
+    int ring;
+    uint32_t degree, m, limit; /* a ring's q is its degree */
+    size_t rows, columns;
+    int shape, tight, bad_lost; /* the list's shape; k_max columns remain; a lost column has a bad symbol */
+};
+
+static void count_lost(const struct call *c, uint32_t answer)
+{
+    int refused = gren_code(answer) == GREN_REFUSED;
+    count_decoding(c->ring ? LOST_RINGS : LOST_MARKS, answer);
+    looked_at[c->shape] += !refused || answer == GREN_BAD_LOST || answer == GREN_TOO_MANY_LOST || answer == GREN_BAD_LIMIT;
+    tight_calls += !refused && c->tight;
+    nothing_wrong += answer == 256 && lost.length > 0;
+    bad_where_lost += answer == GREN_BAD_SYMBOL && c->bad_lost;
+}
+
+static uint32_t library_lost(const struct call *c, int which)
+{
+    return c->ring ? gren_ring_decode_lost(c->degree, c->m, c->limit, own(&lost, which), lost.length, own(&second, which),
+                                           second.length, own(&first, which), first.length, own(&flags, which), flags.length,
+                                           space[which] + GUARD, space_length)
+                   : gren_mark_decode_lost(c->degree, own(&lengths, which), c->rows, own(&points, which), c->columns, c->limit,
+                                           own(&lost, which), lost.length, own(&second, which), second.length, own(&first, which),
+                                           first.length, own(&flags, which), flags.length, space[which] + GUARD, space_length);
+}
+
+static uint32_t second_lost(const struct call *c)
+{
+    return c->ring ? second_ring_decode_lost(c->degree, c->m, c->limit, own(&lost, 1), lost.length, own(&second, 1), second.length,
+                                             own(&first, 1), first.length, own(&flags, 1), flags.length, space[1] + GUARD,
+                                             space_length)
+                   : second_mark_decode_lost(c->degree, own(&lengths, 1), c->rows, own(&points, 1), c->columns, c->limit,
+                                             own(&lost, 1), lost.length, own(&second, 1), second.length, own(&first, 1),
+                                             first.length, own(&flags, 1), flags.length, space[1] + GUARD, space_length);
+}
+
+static uint32_t without_list(const struct call *c)
+{
+    return c->ring ? gren_ring_decode(c->degree, c->m, c->limit, own(&second, 1), second.length, own(&first, 1), first.length,
+                                      own(&flags, 1), flags.length, space[1] + GUARD, space_length)
+                   : gren_mark_decode(c->degree, own(&lengths, 1), c->rows, own(&points, 1), c->columns, c->limit, own(&second, 1),
+                                      second.length, own(&first, 1), first.length, own(&flags, 1), flags.length, space[1] + GUARD,
+                                      space_length);
+}
+
+/* The library against the second program, against itself with other symbols in the lost columns, and with nothing lost against the
+ * call that takes no list. */
+static int compare_lost(const struct call *c, size_t down, size_t across, unsigned symbols)
+{
+    static struct buffer lent_first, lent_flags, received;
+    static uint8_t lent_space[sizeof space[0]];
+    lent_first = first, lent_flags = flags, received = second;
+    memcpy(lent_space, space[0], sizeof space[0]);
+    uint32_t a = library_lost(c, 0), b = second_lost(c);
+    count_lost(c, a);
+    if (!same(c->ring ? "decoding a ring with lost sectors" : "decoding with lost columns", a, b))
+        return 0;
+    if (lost.length && gren_code(a) == GREN_REFUSED && a != GREN_BAD_LOST && a != GREN_TOO_MANY_LOST && a != GREN_BAD_LIMIT)
+        return 1;
+    memcpy(first.all[1], lent_first.all[1], sizeof first.all[1]);
+    memcpy(flags.all[1], lent_flags.all[1], sizeof flags.all[1]);
+    memcpy(space[1], lent_space, sizeof space[1]);
+    for (size_t i = 0; i < c->columns; i++)
+        for (size_t l = 0; l < c->rows && is_lost(i); l++)
+            own(&second, 1)[l * down + i * across] = (uint8_t)below(symbols);
+    b = lost.length ? library_lost(c, 1) : without_list(c);
+    second = received;
+    return same(lost.length ? "other symbols in the lost columns" : "nothing lost", a, b);
+}
+
+static int compare_mark_lost(void)
+{
+    struct call c = {0};
+    uint32_t b;
+    c.degree = random_code(&c.rows, &c.columns, 1);
+    unsigned symbols = c.degree == 2 || c.degree == 4 ? 1u << c.degree : 256;
+    size_t cells = c.rows * c.columns < ROOM ? c.rows * c.columns : 0, largest = 0;
+    for (size_t l = 0; l < c.rows; l++)
+        largest = own(&lengths, 0)[l] > largest ? own(&lengths, 0)[l] : largest;
+    size_t most = largest <= c.columns ? c.columns - largest : 0;
+    c.shape = random_lost(c.columns, most);
+    size_t left = c.rows >= 1 && c.rows <= 4 ? remaining(c.columns, most) : 0;
+    c.tight = left == largest && lost.length;
+    c.limit = random_limit(own(&lengths, 0), c.rows, left);
+    fill(&first, message_length(c.rows), symbols);
+    fill(&second, cells, 256);
+    fill_space();
+    if (encode_both(c.degree, c.rows, c.columns, &b) == GREN_DONE)
+        damage(c.rows, c.columns, c.columns, 1, c.limit, symbols);
+    both(&second);
+    if (cells)
+        c.bad_lost = spoil_received(c.rows, c.columns, c.columns, 1, symbols);
+    second.length = spoil_length(second.length);
+    fill(&first, spoil_length(cells), 256);
+    fill(&flags, spoil_length(c.columns), 256);
+    return compare_lost(&c, c.columns, 1, symbols);
+}
+
+static int compare_ring_lost(void)
+{
+    uint32_t q = chance(3) ? 4 : 2, size = q * q * q;
+    struct call c = {1, q, q * q - 1 + below(size - q * q + 1), 0, q, q * q, 0, 0, 0};
+    uint8_t ks[4];
+    second_ring_lengths(q, c.m, ks);
+    size_t most = c.columns - ks[0], total = 0;
+    for (uint32_t j = 0; j < q; j++)
+        total += ks[j];
+    c.shape = random_lost(c.columns, most);
+    size_t left = remaining(c.columns, most);
+    c.tight = left == ks[0] && lost.length;
+    c.limit = random_limit(ks, q, left);
+    fill(&first, total, (unsigned)c.columns);
+    fill(&second, size, 256);
+    fill_space();
+    if (gren_ring_encode(q, c.m, own(&first, 0), total, own(&second, 0), size) != GREN_DONE)
+        return 0;
+    damage(q, c.columns, 1, q, c.limit, (unsigned)c.columns);
+    c.bad_lost = spoil_received(q, c.columns, 1, q, (unsigned)c.columns);
+    if (chance(40))
+        c.degree = below(9) + (chance(3) ? 256 : 0);
+    if (chance(40))
+        c.m = below(80);
+    second.length = spoil_length(size);
+    fill(&first, spoil_length(size), 256);
+    fill(&flags, spoil_length(c.columns), 256);
+    return compare_lost(&c, 1, q, (unsigned)c.columns);
+}
+
+/* ---- all */
+
+static void start(uint64_t seed)
+{
+    state = seed * 0x9E3779B97F4A7C15u;
+    for (int warm = 0; warm < 4; warm++)
+        next();
+}
+
+static int print_counts(unsigned long count)
+{
+    static const char *const names[KINDS] = {"marks", "rings", "marks with lost columns", "rings with lost sectors"};
+    static const uint8_t checks[KINDS][12] = {{1, 2, 3, 4, 5, 6, 7, 8, 9},
+                                              {10, 11, 5, 7, 8, 9},
+                                              {1, 2, 3, 4, 5, 6, 7, 16, 17, 8},
+                                              {10, 11, 5, 7, 16, 17, 8}};
+    int missing = 0;
+    for (int kind = 0; kind < KINDS; kind++) {
+        unsigned long *ends = endings[kind];
+        printf("compare: %s: refused %lu, corrected %lu, none %lu, several %lu, hollow %lu; refusals", names[kind], ends[0], ends[1],
+               ends[2], ends[3], ends[4]);
+        for (const uint8_t *k = checks[kind]; *k; k++) {
+            printf(" %u: %lu", *k, refusals[kind][*k]);
+            missing |= !refusals[kind][*k];
+        }
+        printf("\n");
+        for (unsigned e = 0; e < 5; e++)
+            missing |= !ends[e];
+    }
+    printf("compare: lists");
+    for (int shape = 0; shape < SHAPES; shape++) {
+        printf("%s %s %lu", shape ? "," : "", shapes[shape], looked_at[shape]);
+        missing |= !looked_at[shape];
+    }
+    printf("; decoded with k_max columns remaining %lu, corrected with nothing wrong %lu, refused for a symbol in a lost column %lu\n",
+           tight_calls, nothing_wrong, bad_where_lost);
+    missing |= !tight_calls || !nothing_wrong || !bad_where_lost;
+    if (missing && count >= 20000)
+        printf("compare: something was never tried: a count is 0\n");
+    return missing && count >= 20000;
 }
 
 int main(int argc, char **argv)
 {
     unsigned long count = argc > 1 ? strtoul(argv[1], NULL, 10) : 20000;
     uint64_t seed = argc > 2 ? strtoull(argv[2], NULL, 10) : 20261115;
-    for (unsigned long i = 0; i < count; i++) {
-        state = (seed + i + 1) * 0x9E3779B97F4A7C15u;
-        for (int warm = 0; warm < 4; warm++)
-            next();
-        int ok = i % 4 == 0 ? compare_mark_coding() : i % 4 == 3 ? compare_ring() : compare_mark_decoding();
+    for (unsigned long i = 0; i < count + count / 2; i++) {
+        int ok;
+        start(seed + i + 1);
+        if (i >= count)
+            ok = i % 3 == 0 ? compare_ring_lost() : compare_mark_lost();
+        else
+            ok = i % 4 == 0 ? compare_mark_coding() : i % 4 == 3 ? compare_ring() : compare_mark_decoding();
         if (!ok) {
             printf("compare: case %lu of seed %llu FAILED\n", i, (unsigned long long)seed);
             return 1;
         }
     }
-    printf("compare: %lu cases of seed %llu agree; encodings and readings done: %lu\n", count, (unsigned long long)seed, done);
-    for (int ring = 0; ring < 2; ring++)
-        printf("compare: %s: refused %lu, corrected %lu, none %lu, several %lu, hollow %lu\n", ring ? "rings" : "marks",
-               endings[ring][0], endings[ring][1], endings[ring][2], endings[ring][3], endings[ring][4]);
-    printf("compare: refusals");
-    for (unsigned k = 1; k <= 11; k++)
-        printf(" %u: %lu", k, refusals[k]);
-    printf("\n");
-    for (unsigned k = 1; k <= 11; k++)
-        if (count >= 20000 && refusals[k] == 0) {
-            printf("compare: no refusal %u was tried\n", k);
-            return 1;
-        }
-    for (unsigned e = 0; e < 5; e++)
-        if (count >= 20000 && endings[0][e] == 0) {
-            printf("compare: no ending %u was tried\n", e);
-            return 1;
-        }
-    return 0;
+    printf("compare: %lu cases of seed %llu agree, and %lu with lost columns; encodings and readings done: %lu\n", count,
+           (unsigned long long)seed, count / 2, done);
+    return print_counts(count);
 }

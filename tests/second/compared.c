@@ -1,5 +1,5 @@
 /* The calls of the comparing program (crates/compared), and what it is to write: frames of random calls, right and wrong ones, over
- * all fields, and their answers by the second program.
+ * all fields, then such with lost columns, and their answers by the second program.
  *
  *   compared in|out FILE
  */
@@ -9,7 +9,9 @@
 #include <stdio.h>
 #include <string.h>
 
-enum { FRAME = 512, CALLS = 600, LENGTHS = 14, POINTS = 21, SYMBOLS = 118, SPACE_LESS = 49144 };
+enum { FRAME = 512, CALLS = 600, LOST_CALLS = 240, SPACE_LESS = 49144 };
+enum { LENGTHS = 14, POINTS = 21, SYMBOLS = 118, LOST_COUNT = 503, LOST = 504, MOST_LOST = 8 };
+enum { MARK_LOST = 7, RING_LOST = 6 };
 
 static uint8_t frame[FRAME];
 
@@ -59,6 +61,48 @@ static void damage(unsigned columns, unsigned rows, unsigned across, unsigned do
         random_symbols(size);
 }
 
+/* Lays a list of lost columns, good or bad; answers how many columns remain, and all of them where the list is bad. */
+static unsigned lose(unsigned columns, unsigned largest)
+{
+    uint8_t order[24];
+    unsigned most = columns - largest, count = below((most < MOST_LOST ? most : MOST_LOST) + 1), bad = 0;
+    for (unsigned i = 0; i < 24; i++)
+        order[i] = (uint8_t)(i % columns);
+    for (unsigned i = columns; i > 1; i--) {
+        unsigned j = below(i);
+        uint8_t swap = order[i - 1];
+        order[i - 1] = order[j];
+        order[j] = swap;
+    }
+    switch (below(16)) {
+    case 0: count = 0; break;
+    case 1:
+        for (unsigned i = 0; i < count; i++)
+            order[i] = (uint8_t)(columns - 1 - i);
+        break;
+    case 2: count = most; break;
+    case 3: count = most + 1 + below(columns - most), bad = 1; break;
+    case 4: order[count] = order[0], order[count + 1] = order[0], count += 2, bad = 1; break;
+    case 5: order[count++] = (uint8_t)(chance(2) ? columns : 255), bad = 1; break;
+    case 6: count = columns + 1, bad = 1; break;
+    default: break;
+    }
+    count = count < MOST_LOST ? count : MOST_LOST;
+    frame[LOST_COUNT] = (uint8_t)count;
+    memcpy(frame + LOST, order, MOST_LOST);
+    return bad ? columns : columns - count;
+}
+
+/* Any symbols in the lost columns, now and then one outside the field, and often any symbols everywhere. */
+static void spoil_lost(unsigned columns, unsigned rows, unsigned across, unsigned down, unsigned size)
+{
+    if (frame[LOST_COUNT] && chance(4))
+        random_symbols(size);
+    for (unsigned z = 0; z < frame[LOST_COUNT]; z++)
+        for (unsigned l = 0; l < rows && frame[LOST + z] < columns; l++)
+            frame[SYMBOLS + frame[LOST + z] * across + l * down] = (uint8_t)(chance(60) ? next() : below(size));
+}
+
 static void mark_call(unsigned call)
 {
     static const unsigned degrees[] = {2, 4, 8};
@@ -76,7 +120,10 @@ static void mark_call(unsigned call)
             xs[i] = (uint8_t)below(size);
         while (used[xs[i]]++);
     }
-    unsigned limit = second_joint_limit(ks, rows, columns);
+    unsigned largest = 0;
+    for (unsigned l = 0; l < rows; l++)
+        largest = ks[l] > largest ? ks[l] : largest;
+    unsigned limit = second_joint_limit(ks, rows, call == MARK_LOST ? lose(columns, largest) : columns);
     if (call < 2 || chance(2))
         limit = below(limit + 1);
     random_symbols(size);
@@ -84,11 +131,12 @@ static void mark_call(unsigned call)
         memcpy(message, frame + SYMBOLS, 385);
         second_mark_encode(degree, ks, rows, xs, columns, message, total, array, rows * columns);
         memcpy(frame + SYMBOLS, array, rows * columns);
-        if (call == 2)
+        if (call >= 2)
             damage(columns, rows, 1, columns, limit, size);
         else if (chance(2))
             frame[SYMBOLS + below(rows * columns)] ^= (uint8_t)(1 + below(size - 1));
     }
+    spoil_lost(columns, rows, 1, columns, size);
     frame[0] = (uint8_t)call;
     set_number(1, chance(40) ? below(600) : degree);
     set_number(3, chance(30) ? limit + 1 + below(300) : limit);
@@ -113,26 +161,27 @@ static void ring_call(unsigned call)
     second_ring_lengths(q, m, ks);
     for (unsigned j = 0; j < q; j++)
         total += ks[j];
-    unsigned limit = second_joint_limit(ks, q, columns);
+    unsigned limit = second_joint_limit(ks, q, call == RING_LOST ? lose(columns, ks[0]) : columns);
     if (chance(2))
         limit = below(limit + 1);
     random_symbols(columns);
-    if (call > 0) {
+    if (call > 3) {
         memcpy(message, frame + SYMBOLS, 385);
         second_ring_encode(q, m, message, total, word, size);
         memcpy(frame + SYMBOLS, word, size);
-        if (call == 2)
+        if (call >= 5)
             damage(columns, q, q, 1, limit, columns);
         else if (chance(2))
             frame[SYMBOLS + below(size)] ^= (uint8_t)(1 + below(columns - 1));
     }
-    frame[0] = (uint8_t)(3 + call);
+    spoil_lost(columns, q, q, 1, columns);
+    frame[0] = (uint8_t)call;
     set_number(1, chance(40) ? below(600) : q);
     set_number(3, chance(30) ? limit + 1 + below(300) : limit);
     frame[5] = (uint8_t)(chance(30) ? below(256) : m);
-    set_lengths(0, 0, call == 0 ? total : size, call == 1 ? total : size, columns);
+    set_lengths(0, 0, call == 3 ? total : size, call == 4 ? total : size, columns);
     if (chance(40))
-        frame[SYMBOLS + below((unsigned)(call == 0 ? total : size))] = (uint8_t)next();
+        frame[SYMBOLS + below((unsigned)(call == 3 ? total : size))] = (uint8_t)next();
 }
 
 static size_t count(unsigned n, unsigned most)
@@ -144,8 +193,8 @@ static void answer(FILE *to)
 {
     static uint8_t result[385], flags[97], space[49399];
     size_t ks = count(frame[6], 7), xs = count(frame[7], 97), s = count(number(8), 385), a = count(number(10), 385),
-           f = count(frame[12], 97), w = SPACE_LESS + (size_t)frame[13], zeros = 0;
-    const uint8_t *k = frame + LENGTHS, *x = frame + POINTS, *y = frame + SYMBOLS;
+           f = count(frame[12], 97), w = SPACE_LESS + (size_t)frame[13], g = count(frame[LOST_COUNT], MOST_LOST), zeros = 0;
+    const uint8_t *k = frame + LENGTHS, *x = frame + POINTS, *y = frame + SYMBOLS, *lost = frame + LOST;
     uint32_t r, first = number(1), limit = number(3), m = frame[5];
     memset(result, 7, sizeof result);
     memset(flags, 9, sizeof flags);
@@ -156,7 +205,9 @@ static void answer(FILE *to)
     case 2: r = second_mark_decode(first, k, ks, x, xs, limit, y, s, result, a, flags, f, space, w); break;
     case 3: r = second_ring_encode(first, m, y, s, result, a); break;
     case 4: r = second_ring_read(first, m, y, s, result, a); break;
-    default: r = second_ring_decode(first, m, limit, y, s, result, a, flags, f, space, w); break;
+    case 5: r = second_ring_decode(first, m, limit, y, s, result, a, flags, f, space, w); break;
+    case RING_LOST: r = second_ring_decode_lost(first, m, limit, lost, g, y, s, result, a, flags, f, space, w); break;
+    default: r = second_mark_decode_lost(first, k, ks, x, xs, limit, lost, g, y, s, result, a, flags, f, space, w); break;
     }
     fprintf(to, "%u ", (unsigned)r);
     for (size_t i = 0; i < a; i++)
@@ -181,12 +232,14 @@ int main(int argc, char **argv)
         return 1;
     }
     state = 0x2545F4914F6CDD1Du;
-    for (unsigned i = 0; i < CALLS; i++) {
+    for (unsigned i = 0; i < CALLS + LOST_CALLS; i++) {
+        if (i == CALLS) /* from here each ending and each refusal comes about, of marks and of rings */
+            state = 82 * 0x9E3779B97F4A7C15u;
         memset(frame, 0, sizeof frame);
         if (i % 3 == 2)
-            ring_call(i / 3 % 3);
+            ring_call(i < CALLS ? 3 + i / 3 % 3 : RING_LOST);
         else
-            mark_call(i / 3 % 3);
+            mark_call(i < CALLS ? i / 3 % 3 : MARK_LOST);
         if (!strcmp(argv[1], "in"))
             fwrite(frame, 1, FRAME, to);
         else

@@ -1,5 +1,6 @@
 /* Demand 3 seen to hold by a program that knows nothing of locators: all arrays over GF(4) with few columns and rows, all message
- * lengths and all trial limits, against a search over sets of wrong columns.
+ * lengths, all sets of lost columns and all trial limits, against a search over sets of wrong columns. Then short lists of lost
+ * columns, good and bad, against the checks.
  *
  *   exhaustive [MOST]    arrays of up to MOST symbols (default 8: all with two rows of four)
  */
@@ -56,24 +57,52 @@ static unsigned size_of(unsigned set)
     return count;
 }
 
-static unsigned long cases;
+static unsigned long cases[2];
 
-static int check(const uint8_t *ks, size_t r, const uint8_t *points, size_t n, unsigned limit, const uint8_t *y)
+/* The columns of a set as a list, in an order that depends on `turn`: each order of up to three comes about. */
+static size_t listed(unsigned set, unsigned long turn, uint8_t *list)
 {
-    uint8_t answer[8], flags[MOST_COLUMNS], found[8], other[8];
-    unsigned nearest = ~0u, ways = 0;
+    uint8_t rising[MOST_COLUMNS];
+    size_t count = 0;
+    for (unsigned i = 0; i < MOST_COLUMNS; i++)
+        if (set >> i & 1)
+            rising[count++] = (uint8_t)i;
+    for (size_t i = 0; i < count; i++) {
+        size_t at = (i + turn) % count;
+        list[i] = rising[turn / count % 2 ? count - 1 - at : at];
+    }
+    return count;
+}
+
+/* The only nearest code array outside the lost columns, if there is one, and how far it is; answers how many are as near. */
+static unsigned search(const uint8_t *ks, size_t r, const uint8_t *points, size_t n, unsigned lost, unsigned limit, const uint8_t *y,
+                       uint8_t *found, unsigned *nearest)
+{
+    uint8_t other[8];
+    unsigned ways = 0;
     for (unsigned w = 0; w <= limit && !ways; w++)
         for (unsigned set = 0; set < 1u << n; set++)
-            if (size_of(set) == w && agreeing(ks, r, points, n, y, set, other)) {
+            if (!(set & lost) && size_of(set) == w && agreeing(ks, r, points, n, y, set | lost, other)) {
                 if (!ways || memcmp(found, other, r * n))
                     ways++;
                 memcpy(found, other, r * n);
-                nearest = w;
+                *nearest = w;
             }
+    return ways;
+}
+
+static int check(const uint8_t *ks, size_t r, const uint8_t *points, size_t n, unsigned lost, unsigned limit, unsigned long turn,
+                 const uint8_t *y)
+{
+    uint8_t answer[8], flags[MOST_COLUMNS], found[8], list[MOST_COLUMNS];
+    unsigned nearest = ~0u, ways = search(ks, r, points, n, lost, limit, y, found, &nearest);
+    size_t gone = listed(lost, turn, list);
     memset(answer, 0xEE, sizeof answer);
     memset(flags, 0xEE, sizeof flags);
-    uint32_t e = gren_mark_decode(DEGREE, ks, r, points, n, limit, y, r * n, answer, r * n, flags, n, space, sizeof space);
-    cases++;
+    uint32_t e = lost ? gren_mark_decode_lost(DEGREE, ks, r, points, n, limit, list, gone, y, r * n, answer, r * n, flags, n, space,
+                                              sizeof space)
+                      : gren_mark_decode(DEGREE, ks, r, points, n, limit, y, r * n, answer, r * n, flags, n, space, sizeof space);
+    cases[lost > 0]++;
     int corrected = gren_code(e) == GREN_CORRECTED;
     int ok = gren_code(e) != GREN_REFUSED;
     if (corrected) {
@@ -82,7 +111,7 @@ static int check(const uint8_t *ks, size_t r, const uint8_t *points, size_t n, u
             int wrong = 0;
             for (size_t l = 0; l < r; l++)
                 wrong |= answer[l * n + i] != y[l * n + i];
-            ok &= flags[i] == wrong;
+            ok &= flags[i] == (lost >> i & 1 ? 2 : wrong);
         }
     } else {
         for (size_t i = 0; i < sizeof answer; i++)
@@ -92,9 +121,96 @@ static int check(const uint8_t *ks, size_t r, const uint8_t *points, size_t n, u
     }
     if (gren_code(e) == GREN_NONE)
         ok &= ways == 0;
-    if (limit <= second_safe_limit(ks, r, n))
+    if (limit <= second_safe_limit(ks, r, n - gone))
         ok &= corrected == (ways > 0);
     return ok;
+}
+
+/* All arrays of a code and all trial limits. In the longest arrays the lost columns take few of the symbols that they could. */
+static int check_arrays(const uint8_t *ks, size_t r, const uint8_t *points, size_t n, unsigned lost)
+{
+    size_t left = n - size_of(lost), free_symbols = r * n <= 6 ? r * n : r * left;
+    for (unsigned limit = 0; limit <= second_joint_limit(ks, r, left); limit++)
+        for (unsigned long word = 0; word < 1ul << (2 * free_symbols); word++) {
+            uint8_t y[8];
+            unsigned long symbols = word, other = word * 2654435761u >> 7;
+            for (size_t i = 0; i < r * n; i++) {
+                unsigned long *from = r * n > 6 && lost >> (i % n) & 1 ? &other : &symbols;
+                y[i] = (uint8_t)(*from & 3);
+                *from >>= 2;
+            }
+            if (!check(ks, r, points, n, lost, limit, word, y)) {
+                printf("exhaustive: n %zu, r %zu, k %u %u, lost %u, limit %u, array %lu FAILED\n", n, r, ks[0], ks[1], lost, limit,
+                       word);
+                return 0;
+            }
+        }
+    return 1;
+}
+
+static unsigned long lists[4];
+
+/* A code array with other symbols in the lost columns, where there is nothing to find but the numbers of the checks. */
+static int check_list(const uint8_t *ks, size_t r, const uint8_t *points, size_t n, const uint8_t *list, size_t count)
+{
+    unsigned lost = 0, largest = r > 1 && ks[1] > ks[0] ? ks[1] : ks[0], expected = 0;
+    uint8_t y[8] = {0}, answer[8], flags[MOST_COLUMNS];
+    for (size_t i = 0; i < count; i++) {
+        if (list[i] >= n || lost >> list[i] & 1)
+            expected = 16;
+        else
+            lost |= 1u << list[i];
+    }
+    if (!expected && n - count < largest)
+        expected = 17;
+    for (size_t i = 0; i < r * n; i++)
+        if (lost >> (i % n) & 1)
+            y[i] = (uint8_t)(1 + i % 3);
+    unsigned most = expected ? 1 : second_joint_limit(ks, r, n - count) + 1;
+    for (unsigned limit = 0; limit <= most; limit++) {
+        unsigned refused = expected ? expected : limit == most ? 8 : 0;
+        memset(answer, 0xEE, sizeof answer);
+        memset(flags, 0xEE, sizeof flags);
+        uint32_t e = gren_mark_decode_lost(DEGREE, ks, r, points, n, limit, list, count, y, r * n, answer, r * n, flags, n, space,
+                                           sizeof space);
+        int ok = e == (refused ? refused : 256);
+        for (size_t i = 0; i < r * n; i++)
+            ok &= answer[i] == (refused ? 0xEE : 0);
+        for (size_t i = 0; i < n; i++)
+            ok &= flags[i] == (refused ? 0xEE : lost >> i & 1 ? 2 : 0);
+        lists[refused == 16 ? 1 : refused == 17 ? 2 : refused == 8 ? 3 : 0]++;
+        if (!ok)
+            return 0;
+    }
+    return 1;
+}
+
+/* All lists of up to four numbers: the columns, the number of columns, and 255. */
+static int check_lists(const uint8_t *ks, size_t r, const uint8_t *points, size_t n)
+{
+    unsigned all = 1;
+    for (size_t count = 0; count <= 4; count++, all *= (unsigned)n + 2)
+        for (unsigned which = 0; which < all; which++) {
+            uint8_t list[4];
+            unsigned rest = which;
+            for (size_t i = 0; i < count; i++, rest /= (unsigned)n + 2)
+                list[i] = (uint8_t)(rest % (n + 2) > n ? 255 : rest % (n + 2));
+            if (!check_list(ks, r, points, n, list, count)) {
+                printf("exhaustive: n %zu, r %zu, k %u %u, list %u of %zu FAILED\n", n, r, ks[0], ks[1], which, count);
+                return 0;
+            }
+        }
+    return 1;
+}
+
+static int check_code(const uint8_t *ks, size_t r, const uint8_t *points, size_t n)
+{
+    for (unsigned lost = 0; lost < 1u << n; lost++) {
+        size_t left = n - size_of(lost);
+        if (left >= ks[0] && (r == 1 || left >= ks[1]) && !check_arrays(ks, r, points, n, lost))
+            return 0;
+    }
+    return check_lists(ks, r, points, n);
 }
 
 int main(int argc, char **argv)
@@ -109,18 +225,12 @@ int main(int argc, char **argv)
                 uint8_t ks[2] = {(uint8_t)(1 + code % 4), (uint8_t)(1 + code / 4)};
                 if (ks[0] > n || ks[1] > n || (r == 1 && ks[1] > 1))
                     continue;
-                for (unsigned limit = 0; limit <= second_joint_limit(ks, r, n); limit++)
-                    for (unsigned long word = 0; word < 1ul << (2 * r * n); word++) {
-                        uint8_t y[8];
-                        for (size_t i = 0; i < r * n; i++)
-                            y[i] = (uint8_t)(word >> (2 * i) & 3);
-                        if (!check(ks, r, points, n, limit, y)) {
-                            printf("exhaustive: n %zu, r %zu, k %u %u, limit %u, array %lu FAILED\n", n, r, ks[0], ks[1], limit, word);
-                            return 1;
-                        }
-                    }
+                if (!check_code(ks, r, points, n))
+                    return 1;
             }
         }
-    printf("exhaustive: %lu decodings agree with the search over sets of columns\n", cases);
+    printf("exhaustive: %lu decodings agree with the search over sets of columns, and %lu with lost columns\n", cases[0], cases[1]);
+    printf("exhaustive: lists of lost columns: %lu corrected, refusals 16: %lu 17: %lu 8: %lu\n", lists[0], lists[1], lists[2],
+           lists[3]);
     return 0;
 }

@@ -366,6 +366,73 @@ uint32_t second_mark_decode(uint32_t degree, const uint8_t *lengths, size_t rows
     return endings(degree, lengths, rows, points, columns, limit, received, answer, flags);
 }
 
+/* ---- lost columns */
+
+/* Checks 16 and 17; which[i] is 1 where column i is lost. */
+static unsigned lost_check(const uint8_t *lengths, size_t rows, size_t columns, const uint8_t *lost, size_t lost_count,
+                           uint8_t *which)
+{
+    memset(which, 0, columns);
+    for (size_t i = 0; i < lost_count; i++) {
+        if (lost[i] >= columns || which[lost[i]])
+            return 16;
+        which[lost[i]] = 1;
+    }
+    return columns - lost_count < largest(lengths, rows) ? 17 : 0;
+}
+
+/* The ending of the array made of the remaining columns; on "corrected" all columns are the values of the rows found there. */
+static uint32_t endings_lost(unsigned degree, const uint8_t *lengths, size_t rows, const uint8_t *points, size_t columns,
+                             uint32_t limit, const uint8_t *which, const uint8_t *received, uint8_t *answer, uint8_t *flags)
+{
+    uint8_t xs[96] = {0}, ys[384] = {0}, found[384] = {0}, wrong[96] = {0}, p[MOST];
+    size_t remaining = 0, at = 0;
+    for (size_t i = 0; i < columns; i++)
+        if (!which[i])
+            xs[remaining++] = points[i];
+    for (size_t l = 0; l < rows; l++)
+        for (size_t i = 0; i < columns; i++)
+            if (!which[i])
+                ys[at++] = received[l * columns + i];
+    uint32_t ending = endings(degree, lengths, rows, xs, remaining, limit, ys, found, wrong);
+    if (ending / 256 != 1)
+        return ending;
+    for (size_t l = 0; l < rows; l++) {
+        row_polynomial(degree, lengths[l], xs, remaining, found + l * remaining, p);
+        for (size_t i = 0; i < columns; i++)
+            answer[l * columns + i] = (uint8_t)value(degree, p, lengths[l], points[i]);
+    }
+    at = 0;
+    for (size_t i = 0; i < columns; i++)
+        flags[i] = which[i] ? 2 : wrong[at++];
+    return ending;
+}
+
+uint32_t second_mark_decode_lost(uint32_t degree, const uint8_t *lengths, size_t rows, const uint8_t *points, size_t columns,
+                                 uint32_t limit, const uint8_t *lost, size_t lost_count, const uint8_t *received,
+                                 size_t received_length, uint8_t *answer, size_t answer_length, uint8_t *flags,
+                                 size_t flags_length, uint8_t *space, size_t space_length)
+{
+    uint8_t which[96];
+    unsigned k = code_check(degree, lengths, rows, columns);
+    if (k)
+        return k;
+    if (received_length != rows * columns || answer_length != rows * columns || flags_length != columns
+        || space_length < SECOND_SPACE)
+        return 5;
+    if (bad_points(degree, points, columns))
+        return 6;
+    if (outside(degree, received, received_length))
+        return 7;
+    k = lost_check(lengths, rows, columns, lost, lost_count, which);
+    if (k)
+        return k;
+    if (limit > second_joint_limit(lengths, rows, columns - lost_count))
+        return 8;
+    memset(space, 0, SECOND_SPACE);
+    return endings_lost(degree, lengths, rows, points, columns, limit, which, received, answer, flags);
+}
+
 /* ---- rings */
 
 static unsigned raised(unsigned degree, unsigned a, unsigned n)
@@ -493,6 +560,34 @@ uint32_t second_ring_decode(uint32_t q, uint32_t m, uint32_t limit, const uint8_
     memset(space, 0, SECOND_SPACE);
     ring_array(q, received, array);
     uint32_t ending = endings(q, lengths, q, points, q * q, limit, array, rebuilt, flags);
+    if (ending / 256 == 1)
+        array_ring(q, rebuilt, answer);
+    return ending;
+}
+
+uint32_t second_ring_decode_lost(uint32_t q, uint32_t m, uint32_t limit, const uint8_t *lost, size_t lost_count,
+                                 const uint8_t *received, size_t received_length, uint8_t *answer, size_t answer_length,
+                                 uint8_t *flags, size_t flags_length, uint8_t *space, size_t space_length)
+{
+    uint8_t lengths[4], points[16], which[16], array[64], rebuilt[64];
+    unsigned k = ring_check(q, m);
+    if (k)
+        return k;
+    second_ring_lengths(q, m, lengths);
+    if (received_length != q * q * q || answer_length != q * q * q || flags_length != q * q || space_length < SECOND_SPACE)
+        return 5;
+    if (outside(q, received, received_length))
+        return 7;
+    k = lost_check(lengths, q, q * q, lost, lost_count, which);
+    if (k)
+        return k;
+    if (limit > second_joint_limit(lengths, q, q * q - lost_count))
+        return 8;
+    for (unsigned x = 0; x < q * q; x++)
+        points[x] = (uint8_t)x;
+    memset(space, 0, SECOND_SPACE);
+    ring_array(q, received, array);
+    uint32_t ending = endings_lost(q, lengths, q, points, q * q, limit, which, array, rebuilt, flags);
     if (ending / 256 == 1)
         array_ring(q, rebuilt, answer);
     return ending;

@@ -1,7 +1,8 @@
 // Makes the calls that standard input asks for, by the functions that C callers link, and writes what they leave. A call is a frame
 // of 512 bytes; numbers of two bytes have the low one first:
 //
-//   0           0, 1, 2 for encoding, reading and decoding a mark; 3, 4, 5 for a ring
+//   0           0, 1, 2 for encoding, reading and decoding a mark; 3, 4, 5 for a ring; 6 for decoding a ring with lost sectors, and 7
+//               a mark with lost columns
 //   1, 2        the degree, or q
 //   3, 4        the trial limit
 //   5           m
@@ -12,6 +13,8 @@
 //   14 to 20    the lengths
 //   21 to 117   the points
 //   118 to 502  the symbols
+//   503         how many lost columns there are, at most 8
+//   504 to 511  the lost columns
 //
 // The buffers are lent with 7 in the result, 9 in the flags and 1 in the working space. A call gives a line: its number, the result and
 // the flags in hexadecimal, and how many bytes of the working space are zero. What is written is held to the answers of another
@@ -78,6 +81,7 @@ fn mark(
     limit: u32,
     lengths: &[u8],
     points: &[u8],
+    lost: &[u8],
     input: &[u8],
     result: &mut [u8],
     flags: &mut [u8],
@@ -89,7 +93,29 @@ fn mark(
     if call == 1 {
         return firmware::gren_mark_read(degree, lengths, points, input, result);
     }
-    firmware::gren_mark_decode(degree, lengths, points, limit, input, result, flags, space)
+    if call == 2 {
+        return firmware::gren_mark_decode(
+            degree,
+            lengths,
+            points,
+            limit,
+            input,
+            result,
+            flags,
+            space,
+        );
+    }
+    firmware::gren_mark_decode_lost(
+        degree,
+        lengths,
+        points,
+        limit,
+        lost,
+        input,
+        result,
+        flags,
+        space,
+    )
 }
 
 // The call on a ring.
@@ -98,6 +124,7 @@ fn ring(
     q: u32,
     m: u32,
     limit: u32,
+    lost: &[u8],
     input: &[u8],
     result: &mut [u8],
     flags: &mut [u8],
@@ -109,36 +136,54 @@ fn ring(
     if call == 4 {
         return firmware::gren_ring_read(q, m, input, result);
     }
-    firmware::gren_ring_decode(q, m, limit, input, result, flags, space)
+    if call == 5 {
+        return firmware::gren_ring_decode(q, m, limit, input, result, flags, space);
+    }
+    firmware::gren_ring_decode_lost(q, m, limit, lost, input, result, flags, space)
 }
 
-// The call of a frame.
-fn made(frame: &[u8], result: &mut [u8], flags: &mut [u8], space: &mut [u8]) -> u32
+// The call of a frame whose lost columns and symbols are these.
+fn called(
+    frame: &[u8],
+    lost: &[u8],
+    input: &[u8],
+    result: &mut [u8],
+    flags: &mut [u8],
+    space: &mut [u8],
+) -> u32
     requires { ⌜ length (now frame) ≡ 512 ⌝ }
 {
     let x = number(frame[1], frame[2]);
     let limit = number(frame[3], frame[4]);
+    if 2 < frame[0] && frame[0] < 7 {
+        let m = number(frame[5], 0);
+        return ring(frame[0], x, m, limit, lost, input, result, flags, space);
+    }
     let k = count(number(frame[6], 0), 7);
     let n = count(number(frame[7], 0), 97);
-    let s = count(number(frame[8], frame[9]), 385);
-    if 2 < frame[0] {
-        return ring(
-            frame[0],
-            x,
-            number(frame[5], 0),
-            limit,
-            &frame[118..118 + s],
-            result,
-            flags,
-            space,
-        );
-    }
     mark(
         frame[0],
         x,
         limit,
         &frame[14..14 + k],
         &frame[21..21 + n],
+        lost,
+        input,
+        result,
+        flags,
+        space,
+    )
+}
+
+// The call of a frame.
+fn made(frame: &[u8], result: &mut [u8], flags: &mut [u8], space: &mut [u8]) -> u32
+    requires { ⌜ length (now frame) ≡ 512 ⌝ }
+{
+    let s = count(number(frame[8], frame[9]), 385);
+    let z = count(number(frame[503], 0), 8);
+    called(
+        frame,
+        &frame[504..504 + z],
         &frame[118..118 + s],
         result,
         flags,

@@ -2,7 +2,6 @@
 --
 --   rowsOf c y           of each row, the points from k on with the values that k rounds of divided differences leave there
 --   linesOf c y          the solver's lines for these rows
---   right fs l           the entries of l at the columns whose flag is 0
 --   filled c y fs        y with each column whose flag is not 0 filled in, row by row, from the first k columns whose flag is 0
 --   Outcome              an ending and what it leaves in the buffers
 --   decided c y τ lent   the outcome of decoding y up to τ
@@ -16,18 +15,13 @@ use lib.ListN.{length, take, drop}
 use Rattle.field.specs.Arithmetic.{Arithmetic, gf}
 use Rattle.poly.proofs.Forms.{reduce, newtonValue}
 use Rattle.mark.specs.Code.{Code, rows}
+use Rattle.mark.specs.Lost.{right}
 use Rattle.basis.proofs.Lines.{Row, Line, solve, least, another, size, locatorOf}
 use Rattle.basis.proofs.Lists.{Holds}
 use Rattle.ending.specs.Endings.{Buffers}
 use Rattle.ending.specs.declared.Ending.{Ending}
 use Rattle.ending.specs.declared.Ending.the-variants.{Corrected, Nothing, Several, Hollow}
 use Rattle.ending.proofs.WrongColumns.{rootFlags, rootCount}
-
-unfoldable pub right : {K : Type 0} → List ℕ → List K → List K
-right [] l = []
-right (f ∷ fs) [] = []
-right (zero ∷ fs) (a ∷ l) = a ∷ right fs l
-right (suc f ∷ fs) (a ∷ l) = right fs l
 
 module _ {K : Type 0} (A : Arithmetic K) where
   unfoldable pub reducedRows : List K → List ℕ → List K → List (Row K)

@@ -20,15 +20,17 @@ use Rattle.field.specs.Symbols.{IsSymbol}
 use Rattle.field.specs.Arithmetic.{gf}
 use Rattle.field.proofs.Laws.{Field}
 use Rattle.poly.proofs.Forms.{reduce, newtonValue}
-use Rattle.poly.proofs.Differences.{length-reduce}
+use Rattle.poly.proofs.Differences.{length-reduce, last-round}
 use Rattle.mark.specs.Code.{largest, total}
+use Rattle.mark.specs.Lost.{right}
 use Rattle.rows.specs.Rows.{Points}
 use Rattle.mark.proofs.Parts.{all-take, row-length, rest-length}
 use Rattle.mark.proofs.Limits.{Room, room-largest}
-use Rattle.ending.proofs.Model.{right, filledRow, filledIn, filledRows}
+use Rattle.mark.proofs.Right.{all-right, distinct-right}
+use Rattle.ending.proofs.Model.{filledRow, filledIn, filledRows}
 use Rattle.finish.specs.Working.{zerosIn, put, refilled}
 use Rattle.conditions.proofs.Places.{RowAt, next, row-left, row-size}
-use Rattle.finish.proofs.Marks.{zeros-count, right-count, right-others, all-right, distinct-right, distinct-take}
+use Rattle.finish.proofs.Marks.{zeros-count, right-count, right-others, distinct-take}
 
 module _ (d : ℕ) where
   filled-length : (k : ℕ) (gs us fs xs ys : List ℕ) → length fs ≡ length xs → length ys ≡ length xs
@@ -74,22 +76,26 @@ module _ (d : ℕ) where
   abbrev pub coefficients : (gs fs ys : List ℕ) → List ℕ
   coefficients gs fs ys = reduce (gf d) (length gs) gs (take (length gs) (right fs ys))
 
-  -- a row gathered, reduced, evaluated and merged, as the code stores it
-  module _ (gs ws fs ms ys : List ℕ) (z us′ : List ℕ) {us : List ℕ} (gathered : us ≡ lay 0 (right fs ys) z)
-      (reduced : take (length gs) us′ ≡ reduce (gf d) (length gs) gs (take (length gs) us))
+  -- a row gathered, reduced in all rounds but the last, evaluated and merged, as the code stores it
+  module _ (𝓕 : Field (gf d)) (gs ws fs ms ys : List ℕ) (z us′ : List ℕ) {us : List ℕ} (gathered : us ≡ lay 0 (right fs ys) z)
+      {k : ℕ} (rounds : length gs ≡ suc k) (reduced : take (length gs) us′ ≡ reduce (gf d) k gs (take (length gs) us))
       (few : length gs ≤ length (right fs ys)) (fits : length (right fs ys) ≤ length z)
     where
       first-right : take (length gs) us ≡ take (length gs) (right fs ys)
       first-right = sym (take-take (length gs) (length (right fs ys)) us few) ∙ ap (take (length gs)) (laid-front (right fs ys) z gathered refl fits)
 
       pub newton : take (length gs) us′ ≡ coefficients gs fs ys
-      newton = reduced ∙ ap (reduce (gf d) (length gs) gs) first-right
+      newton =
+          reduced
+          ∙ ap (reduce (gf d) k gs) first-right
+          ∙ last-round (gf d) 𝓕 k gs _ rounds (length-take-le (length gs) (right fs ys) few ∙ rounds)
+          ∙ ap (λ (n : ℕ). reduce (gf d) n gs (take (length gs) (right fs ys))) (sym rounds)
 
-      pub row-filled : Field (gf d) → (z′ : List ℕ) {vs : List ℕ}
+      pub row-filled : (z′ : List ℕ) {vs : List ℕ}
           → vs ≡ lay 0 (map (newtonValue (gf d) (length (take (length gs) us′)) gs (take (length gs) us′)) ws) z′ → length ws ≤ length z′
           → put ms (take (length ws) vs) ys ≡ refilled d gs ws fs ms ys
       unfolding refilled
-      row-filled 𝓕 z′ valued room =
+      row-filled z′ valued room =
           let value : ℕ → ℕ = newtonValue (gf d) (length gs) gs (coefficients gs fs ys) in
           let size : length (coefficients gs fs ys) ≡ length gs =
           length-reduce (gf d) 𝓕 (length gs) gs (take (length gs) (right fs ys)) (length-take-le (length gs) (right fs ys) few) in

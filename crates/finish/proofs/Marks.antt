@@ -4,29 +4,30 @@
 --   zeros-flags       the marks being values at points, their flags are those of the test of columns
 --   right-count       the entries at columns whose mark is zero are as many as the flags add up to
 --   right-others      and the others are those at columns whose flag is zero
---   all-right, distinct-right    what holds of every entry holds of them; of distinct entries they are distinct
---   distinct-take     so are the first of distinct entries
+--   distinct-take     the first of distinct entries are distinct
 --   right-most        they are no more than the columns; put-count, a merged row is as long as the row
+--   put-at, put-other, put-zeros    what stands in a merged row, and its zeros
+--   zeros-twice, zeros-at, zeros-flagged    the flags of the flags: of the marks that are not zero
 --   zeros-none, flagged             no column is left, a turn, of the loop that flags
 --   right-none, gathered-in, -out   the same of the loop that gathers, at a column whose mark is zero, is not
 --   put-none, merged-in, -out       the same of the loop that merges
 -- Assumes nothing.
 use mathlib.Core.Path.{_≡_, refl, sym, ap, ap₂, _∙_}
 use mathlib.Core.Logic.{inl, inr}
-use mathlib.Core.Bool.{Bool}
+use mathlib.Core.Bool.{Bool, true, false}
 use mathlib.Core.List.{List, [], _∷_, map}
 use Prim.Native.Nat.{ℕ, zero, suc, _+_, _-_, _≤_, _<_}
 use native.Mathlib.Nat.{add-zero, add-suc, suc-add, zero-add}
 use native.Mathlib.Omega.{arith}
 use lib.Dec.{eqb}
-use lib.ListN.{length, getD, set, take, drop, length-map, length-drop, length-set, drop-of-length-le}
+use lib.ListN.{length, getD, set, take, drop, replicate, length-map, length-drop, length-set, drop-of-length-le}
 use borrow.Author.Tests.{ne-eqb}
 use Rattle.patch.specs.Parts.{lay}
 use Rattle.patch.proofs.Parts.{lay-cons}
-use Rattle.poly.specs.Poly.{All}
 use Rattle.poly.proofs.Roots.{Mem, Distinct}
 use Rattle.mark.specs.Code.{total, flag, flagsFrom}
-use Rattle.ending.proofs.Model.{right}
+use Rattle.mark.specs.Lost.{right}
+use Rattle.mark.proofs.Right.{rank}
 use Rattle.finish.specs.Working.{flagOf, zerosIn, put}
 use Rattle.conditions.proofs.Places.{next}
 
@@ -73,26 +74,6 @@ module _ {K : Type 0} where
   right-most (zero ∷ ms) (a ∷ l) = omega (arith, right-most ms l)
   right-most (suc m ∷ ms) (a ∷ l) = omega (arith, right-most ms l)
 
-  pub all-right : (P : K → Type 0) (ms : List ℕ) (l : List K) → All P l → All P (right ms l)
-  unfolding right
-  all-right P [] l h = tt
-  all-right P (m ∷ ms) [] h = tt
-  all-right P (zero ∷ ms) (a ∷ l) h = (h .0, all-right P ms l (h .1))
-  all-right P (suc m ∷ ms) (a ∷ l) h = all-right P ms l (h .1)
-
-  mem-right : (ms : List ℕ) (l : List K) (a : K) → Mem a (right ms l) → Mem a l
-  unfolding right
-  mem-right (zero ∷ ms) (b ∷ l) a (inl e) = inl e
-  mem-right (zero ∷ ms) (b ∷ l) a (inr h) = inr (mem-right ms l a h)
-  mem-right (suc m ∷ ms) (b ∷ l) a h = inr (mem-right ms l a h)
-
-  pub distinct-right : (ms : List ℕ) (l : List K) → Distinct l → Distinct (right ms l)
-  unfolding right
-  distinct-right [] l d = tt
-  distinct-right (m ∷ ms) [] d = tt
-  distinct-right (zero ∷ ms) (a ∷ l) d = (λ h. d .0 (mem-right ms l a h), distinct-right ms l (d .1))
-  distinct-right (suc m ∷ ms) (a ∷ l) d = distinct-right ms l (d .1)
-
   mem-take : (n : ℕ) (l : List K) (a : K) → Mem a (take n l) → Mem a l
   mem-take (suc n) (b ∷ l) a (inl e) = inl e
   mem-take (suc n) (b ∷ l) a (inr h) = inr (mem-take n l a h)
@@ -102,13 +83,68 @@ module _ {K : Type 0} where
   distinct-take (suc n) [] d = tt
   distinct-take (suc n) (a ∷ l) d = (λ h. d .0 (mem-take n l a h), distinct-take n l (d .1))
 
-put-count : (ms vs l : List ℕ) → length (put ms vs l) ≡ length l
+pub put-count : (ms vs l : List ℕ) → length (put ms vs l) ≡ length l
 unfolding put
 put-count [] vs l = refl
 put-count (m ∷ ms) vs [] = refl
 put-count (zero ∷ ms) [] (a ∷ l) = refl
 put-count (zero ∷ ms) (v ∷ vs) (a ∷ l) = ap suc (put-count ms vs l)
 put-count (suc m ∷ ms) vs (a ∷ l) = ap suc (put-count ms vs l)
+
+-- what a merged row has at a column: where the mark is zero the next of vs, which the rank counts, and else its own entry
+pub put-at : (ms vs l : List ℕ) (i : ℕ) → length l ≡ length ms → i < length ms → total (zerosIn ms) ≤ length vs → getD ms i 0 ≡ 0
+    → getD (put ms vs l) i 0 ≡ getD vs (rank ms i) 0
+unfolding put rank zerosIn total
+put-at [] vs l i e q r z = absurd (omega arith)
+put-at (m ∷ ms) vs [] i e q r z = absurd (omega arith)
+put-at (zero ∷ ms) [] (a ∷ l) i e q r z = absurd (omega arith)
+put-at (zero ∷ ms) (v ∷ vs) (a ∷ l) zero e q r z = refl
+put-at (zero ∷ ms) (v ∷ vs) (a ∷ l) (suc i) e q r z = put-at ms vs l i (omega arith) (omega arith) (omega arith) z
+put-at (suc m ∷ ms) vs (a ∷ l) zero e q r z = absurd (omega arith)
+put-at (suc m ∷ ms) vs (a ∷ l) (suc i) e q r z = put-at ms vs l i (omega arith) (omega arith) (omega arith) z
+
+pub put-other : (ms vs l : List ℕ) (i : ℕ) → length l ≡ length ms → i < length ms → total (zerosIn ms) ≤ length vs → ¬ (getD ms i 0 ≡ 0)
+    → getD (put ms vs l) i 0 ≡ getD l i 0
+unfolding put zerosIn total
+put-other [] vs l i e q r z = absurd (omega arith)
+put-other (m ∷ ms) vs [] i e q r z = absurd (omega arith)
+put-other (zero ∷ ms) [] (a ∷ l) i e q r z = absurd (omega arith)
+put-other (zero ∷ ms) (v ∷ vs) (a ∷ l) zero e q r z = absurd (z refl)
+put-other (zero ∷ ms) (v ∷ vs) (a ∷ l) (suc i) e q r z = put-other ms vs l i (omega arith) (omega arith) (omega arith) z
+put-other (suc m ∷ ms) vs (a ∷ l) zero e q r z = refl
+put-other (suc m ∷ ms) vs (a ∷ l) (suc i) e q r z = put-other ms vs l i (omega arith) (omega arith) (omega arith) z
+
+-- the zeros of a row merged with numbers that are not zero are those of vs
+pub put-zeros : (b : ℕ) (ms vs : List ℕ) → length vs ≡ total (zerosIn ms)
+    → total (zerosIn (put ms vs (replicate (length ms) (suc b)))) ≡ total (zerosIn vs)
+unfolding put zerosIn total
+put-zeros b [] [] e = refl
+put-zeros b [] (v ∷ vs) e = absurd (omega arith)
+put-zeros b (zero ∷ ms) [] e = absurd (omega arith)
+put-zeros b (zero ∷ ms) (v ∷ vs) e = ap (_+_ (flagOf v)) (put-zeros b ms vs (omega arith))
+put-zeros b (suc m ∷ ms) vs e = omega (arith, put-zeros b ms vs (omega arith))
+
+pub zeros-twice : (ms : List ℕ) → total (zerosIn ms) + total (zerosIn (zerosIn ms)) ≡ length ms
+unfolding zerosIn total
+zeros-twice [] = refl
+zeros-twice (zero ∷ ms) = omega (arith, zeros-twice ms)
+zeros-twice (suc m ∷ ms) = omega (arith, zeros-twice ms)
+
+pub zeros-at : (ms : List ℕ) (i : ℕ) → i < length ms → getD (zerosIn (zerosIn ms)) i 0 ≡ 0 → getD ms i 0 ≡ 0
+unfolding zerosIn
+zeros-at [] i q e = refl
+zeros-at (zero ∷ ms) zero q e = refl
+zeros-at (suc m ∷ ms) zero q e = absurd (omega arith)
+zeros-at (m ∷ ms) (suc i) q e = zeros-at ms i (omega arith) e
+
+pub zeros-flagged : (f : ℕ → Bool) (i n : ℕ) → zerosIn (zerosIn (flagsFrom f i n)) ≡ flagsFrom f i n
+unfolding zerosIn flagsFrom
+zeros-flagged f i zero = refl
+zeros-flagged f i (suc n) = ap₂ _∷_ (twice (f i)) (zeros-flagged f (suc i) n)
+  where
+    twice : (b : Bool) → flagOf (flagOf (flag b)) ≡ flag b
+    twice true = refl
+    twice false = refl
 
 -- turns of the loops, at column i
 

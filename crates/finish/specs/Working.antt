@@ -13,7 +13,7 @@ use Rattle.field.specs.Arithmetic.{gf}
 use Rattle.poly.proofs.Forms.{reduce, newtonValue}
 use Rattle.mark.specs.Code.{Code, rows, columns}
 use Rattle.ending.specs.Endings.{Buffers}
-use Rattle.ending.proofs.Model.{right}
+use Rattle.mark.specs.Lost.{right}
 use Rattle.ending.specs.declared.Ending.{Ending}
 use Rattle.ending.specs.declared.Ending.the-variants.{Refused, Corrected, Nothing, Several, Hollow}
 

@@ -11,12 +11,13 @@ ghost use Rattle.field.specs.Tables.{IsTable};
 ghost use Rattle.poly.specs.Poly.{All};
 ghost use Rattle.rows.specs.Rows.{Points, Inverses};
 ghost use Rattle.mark.specs.Code.{IsArray, codeOf, jointLimit, largest, rows, total};
+ghost use Rattle.mark.specs.Lost.{right};
 ghost use Rattle.mark.proofs.Passed.{Counts};
 ghost use Rattle.mark.proofs.Proper.{Proper};
 ghost use Rattle.mark.proofs.Limits.{Room};
 ghost use Rattle.ending.specs.Endings.{Buffers};
 ghost use Rattle.ending.proofs.WrongColumns.{rootCount};
-ghost use Rattle.ending.proofs.Model.{right, filled, divided};
+ghost use Rattle.ending.proofs.Model.{filled, divided};
 ghost use Rattle.finish.specs.Working.{released, flagOf, zerosIn, put, refilled, fronts};
 use ending::Ending;
 use field::tables::LENT;
@@ -30,8 +31,8 @@ fn flag_of(value: u8) -> u8
     if value == 0 { 1 } else { 0 }
 }
 
-// Flags the values that are zero; answers how many are.
-fn flag_zeros(values: &[u8], flags: &mut [u8]) -> usize
+// For the crates above: flags the values that are zero; answers how many are.
+pub fn flag_zeros(values: &[u8], flags: &mut [u8]) -> usize
     requires { ⌜ length (now values) ≤ length (now flags) ⌝ }
     ensures { λ r. ⌜ (r ≡ total (zerosIn (now (values .entry)))) × (now (flags .exit) ≡ lay 0 (zerosIn (now (values .entry))) (now (flags .entry))) ⌝ }
 {
@@ -46,8 +47,8 @@ fn flag_zeros(values: &[u8], flags: &mut [u8]) -> usize
     count
 }
 
-// The entries of a row at the columns whose mark is zero, at the front of s; answers how many there are.
-fn gather(marks: &[u8], row: &[u8], s: &mut [u8]) -> usize
+// For the crates above: the entries of a row at the columns whose mark is zero, at the front of s; answers how many there are.
+pub fn gather(marks: &[u8], row: &[u8], s: &mut [u8]) -> usize
     requires { ⌜ (length (now row) ≡ length (now marks)) × (length (now marks) ≤ length (now s)) ⌝ }
     ensures { λ r. ⌜ (r ≡ length (right (now (marks .entry)) (now (row .entry)))) × (now (s .exit) ≡ lay 0 (right (now (marks .entry)) (now (row .entry))) (now (s .entry))) ⌝ }
 {
@@ -63,8 +64,8 @@ fn gather(marks: &[u8], row: &[u8], s: &mut [u8]) -> usize
     j
 }
 
-// Stores the row in s from `at` on, with the next of vs in its place wherever a mark is zero.
-fn merge(marks: &[u8], vs: &[u8], row: &[u8], s: &mut [u8], at: usize)
+// For the crates above: stores the row in s from `at` on, with the next of vs in its place wherever a mark is zero.
+pub fn merge(marks: &[u8], vs: &[u8], row: &[u8], s: &mut [u8], at: usize)
     requires { ⌜ (total (zerosIn (now marks)) ≤ length (now vs)) × (length (now row) ≡ length (now marks)) × (at + length (now marks) ≤ length (now s)) ⌝ }
     ensures { λ _. ⌜ now (s .exit) ≡ lay at (put (now (marks .entry)) (now (vs .entry)) (now (row .entry))) (now (s .entry)) ⌝ }
 {
@@ -104,7 +105,7 @@ fn fill_row(
     let mut us = [0u8; 112];
     let mut vs = [0u8; 96];
     gather(flags, row, &mut us);
-    rows::lent::reduce(table, degree, nodes, nodes.len(), ws, &mut us);
+    rows::lent::reduce(table, degree, nodes, nodes.len() - 1, ws, &mut us);
     rows::evaluate(table, degree, wrong, nodes, &us[..nodes.len()], &mut vs, 0);
     merge(marks, &vs[..wrong.len()], row, s, at);
 }
@@ -189,9 +190,9 @@ fn fill_wrong(
     );
 }
 
-// The received array with its wrong columns filled in, at the front of s. A column is wrong where its mark, the locator's value
-// there, is zero, and where its flag is not.
-fn fill(
+// For the crates above: the received array with its wrong columns filled in, at the front of s. A column is wrong where its
+// mark, in the decoder the locator's value there, is zero, and where its flag is not.
+pub fn fill(
     table: &[u8; LENT],
     degree: u32,
     lengths: &[u8],

@@ -2,7 +2,7 @@
 -- call is given.
 --
 --   answers-unique    where no two ends of the call keep its promise, neither do two numbers
---   mark-encode, mark-read, mark-decode, ring-encode, ring-read, ring-decode    so of each function
+--   mark-encode, mark-read, mark-decode, ring-encode, ring-read, ring-decode, mark-decode-lost, ring-decode-lost    so of each function
 -- Assumes nothing.
 use mathlib.Core.Path.{_≡_, sym, ap, _∙_}
 use mathlib.Core.List.{List}
@@ -15,8 +15,12 @@ use Rattle.ending.specs.Endings.{packed, Buffers}
 use Rattle.ending.specs.declared.Ending.{Ending}
 use Rattle.joint.specs.Promises as joint
 use Rattle.joint.proofs.Unique as joint-unique
+use Rattle.joint.specs.Lost as joint-lost
+use Rattle.joint.proofs.LostDemands as joint-losing
 use Rattle.ring.specs.Promises as rings
 use Rattle.ring.proofs.Unique as ring-unique
+use Rattle.ring.specs.Lost as ring-lost
+use Rattle.ring.proofs.Lost as ring-losing
 use Rattle.firmware.specs.Answers.{Answers}
 
 module _ {E B : Type 0} (number : E → ℕ) (Keeps : E → B → Type 0)
@@ -30,15 +34,18 @@ module _ {E B : Type 0} (number : E → ℕ) (Keeps : E → B → Type 0)
 parts : {o o′ : Outcome} {b b′ : List ℕ} → left o b ≡ left o′ b′ → (o ≡ o′) × (b ≡ b′)
 parts e = (ap (λ (x : Left). x .outcome) e, ap (λ (x : Left). x .buffer) e)
 
-pub mark-encode : (c : Code) (m lent : List ℕ) {r r′ : ℕ} {b b′ : List ℕ} → Answers numberOf (λ (o : Outcome). Encodes c m lent (left o b)) r
+pub mark-encode : (c : Code) (m lent : List ℕ) {r r′ : ℕ} {b b′ : List ℕ}
+    → Answers numberOf (λ (o : Outcome). Encodes c m lent (left o b)) r
     → Answers numberOf (λ (o : Outcome). Encodes c m lent (left o b′)) r′ → (r ≡ r′) × (b ≡ b′)
 mark-encode c m lent =
-    answers-unique numberOf (λ (o : Outcome) (b : List ℕ). Encodes c m lent (left o b)) (λ o o′ b b′ h h′. parts (encodes-unique c m lent (left o b) (left o′ b′) h h′))
+    answers-unique numberOf (λ (o : Outcome) (b : List ℕ). Encodes c m lent (left o b))
+    (λ o o′ b b′ h h′. parts (encodes-unique c m lent (left o b) (left o′ b′) h h′))
 
 pub mark-read : (c : Code) (a lent : List ℕ) {r r′ : ℕ} {b b′ : List ℕ} → Answers numberOf (λ (o : Outcome). Reads c a lent (left o b)) r
     → Answers numberOf (λ (o : Outcome). Reads c a lent (left o b′)) r′ → (r ≡ r′) × (b ≡ b′)
 mark-read c a lent =
-    answers-unique numberOf (λ (o : Outcome) (b : List ℕ). Reads c a lent (left o b)) (λ o o′ b b′ h h′. parts (reads-unique c a lent (left o b) (left o′ b′) h h′))
+    answers-unique numberOf (λ (o : Outcome) (b : List ℕ). Reads c a lent (left o b))
+    (λ o o′ b b′ h h′. parts (reads-unique c a lent (left o b) (left o′ b′) h h′))
 
 -- what a decoding leaves in the buffers lent to it
 abbrev pub Kept : Type 0
@@ -53,19 +60,39 @@ ended-parts p = (ap (λ (x : joint.Left). x .ending) p, ap (λ (x : joint.Left).
 pub mark-decode : (g : joint.Given) {r r′ : ℕ} {b b′ : Kept} → Answers packed (λ (e : Ending). joint.Decodes g (ended e b)) r
     → Answers packed (λ (e : Ending). joint.Decodes g (ended e b′)) r′ → (r ≡ r′) × (b ≡ b′)
 mark-decode g =
-    answers-unique packed (λ (e : Ending) (b : Kept). joint.Decodes g (ended e b)) (λ e e′ b b′ h h′. ended-parts (joint-unique.unique g (ended e b) (ended e′ b′) h h′))
+    answers-unique packed (λ (e : Ending) (b : Kept). joint.Decodes g (ended e b))
+    (λ e e′ b b′ h h′. ended-parts (joint-unique.unique g (ended e b) (ended e′ b′) h h′))
 
-pub ring-encode : (q m : ℕ) (f lent : List ℕ) {r r′ : ℕ} {b b′ : List ℕ} → Answers numberOf (λ (o : Outcome). rings.Encodes q m f lent (left o b)) r
+pub ring-encode : (q m : ℕ) (f lent : List ℕ) {r r′ : ℕ} {b b′ : List ℕ}
+    → Answers numberOf (λ (o : Outcome). rings.Encodes q m f lent (left o b)) r
     → Answers numberOf (λ (o : Outcome). rings.Encodes q m f lent (left o b′)) r′ → (r ≡ r′) × (b ≡ b′)
 ring-encode q m f lent =
-    answers-unique numberOf (λ (o : Outcome) (b : List ℕ). rings.Encodes q m f lent (left o b)) (λ o o′ b b′ h h′. parts (ring-unique.encodes-unique q m f lent h h′))
+    answers-unique numberOf (λ (o : Outcome) (b : List ℕ). rings.Encodes q m f lent (left o b))
+    (λ o o′ b b′ h h′. parts (ring-unique.encodes-unique q m f lent h h′))
 
-pub ring-read : (q m : ℕ) (w lent : List ℕ) {r r′ : ℕ} {b b′ : List ℕ} → Answers numberOf (λ (o : Outcome). rings.Reads q m w lent (left o b)) r
+pub ring-read : (q m : ℕ) (w lent : List ℕ) {r r′ : ℕ} {b b′ : List ℕ}
+    → Answers numberOf (λ (o : Outcome). rings.Reads q m w lent (left o b)) r
     → Answers numberOf (λ (o : Outcome). rings.Reads q m w lent (left o b′)) r′ → (r ≡ r′) × (b ≡ b′)
 ring-read q m w lent =
-    answers-unique numberOf (λ (o : Outcome) (b : List ℕ). rings.Reads q m w lent (left o b)) (λ o o′ b b′ h h′. parts (ring-unique.reads-unique q m w lent h h′))
+    answers-unique numberOf (λ (o : Outcome) (b : List ℕ). rings.Reads q m w lent (left o b))
+    (λ o o′ b b′ h h′. parts (ring-unique.reads-unique q m w lent h h′))
 
 pub ring-decode : (g : rings.Given) {r r′ : ℕ} {b b′ : Kept} → Answers packed (λ (e : Ending). rings.Decodes g (ended e b)) r
     → Answers packed (λ (e : Ending). rings.Decodes g (ended e b′)) r′ → (r ≡ r′) × (b ≡ b′)
 ring-decode g =
-    answers-unique packed (λ (e : Ending) (b : Kept). rings.Decodes g (ended e b)) (λ e e′ b b′ h h′. ended-parts (ring-unique.decodes-unique g h h′))
+    answers-unique packed (λ (e : Ending) (b : Kept). rings.Decodes g (ended e b))
+    (λ e e′ b b′ h h′. ended-parts (ring-unique.decodes-unique g h h′))
+
+pub mark-decode-lost : (L : List ℕ) (g : joint.Given) {r r′ : ℕ} {b b′ : Kept}
+    → Answers packed (λ (e : Ending). joint-lost.DecodesLost L g (ended e b)) r
+    → Answers packed (λ (e : Ending). joint-lost.DecodesLost L g (ended e b′)) r′ → (r ≡ r′) × (b ≡ b′)
+mark-decode-lost L g =
+    answers-unique packed (λ (e : Ending) (b : Kept). joint-lost.DecodesLost L g (ended e b))
+    (λ e e′ b b′ h h′. ended-parts (joint-losing.unique L g (ended e b) (ended e′ b′) h h′))
+
+pub ring-decode-lost : (L : List ℕ) (g : rings.Given) {r r′ : ℕ} {b b′ : Kept}
+    → Answers packed (λ (e : Ending). ring-lost.DecodesLost L g (ended e b)) r
+    → Answers packed (λ (e : Ending). ring-lost.DecodesLost L g (ended e b′)) r′ → (r ≡ r′) × (b ≡ b′)
+ring-decode-lost L g =
+    answers-unique packed (λ (e : Ending) (b : Kept). ring-lost.DecodesLost L g (ended e b))
+    (λ e e′ b b′ h h′. ended-parts (ring-losing.unique L g (ended e b) (ended e′ b′) h h′))

@@ -5,7 +5,9 @@ ghost use Rattle.mark.specs.Code.{codeOf};
 ghost use Rattle.mark.specs.Promises.{numberOf, Encodes, Reads, left};
 ghost use Rattle.ending.specs.Endings.{packed};
 ghost use Rattle.joint.specs.Promises.{Decodes, buffers, given, left as ended};
+ghost use Rattle.joint.specs.Lost.{DecodesLost};
 ghost use Rattle.ring.specs.Promises as rings;
+ghost use Rattle.ring.specs.Lost as ring-lost;
 use ending::Ending;
 use mark::Outcome;
 
@@ -88,6 +90,36 @@ pub extern "C" fn gren_mark_decode(
     ))
 }
 
+// Decodes a received array of which some columns are lost.
+#[no_mangle]
+pub extern "C" fn gren_mark_decode_lost(
+    degree: u32,
+    lengths: &[u8],
+    points: &[u8],
+    limit: u32,
+    lost: &[u8],
+    received: &[u8],
+    answer: &mut [u8],
+    flags: &mut [u8],
+    space: &mut [u8],
+) -> u32
+    ensures { λ r. ⌜ Answers packed (λ e. DecodesLost (now (lost .entry))
+        (given (codeOf degree (now (points .entry)) (now (lengths .entry))) limit (now (received .entry)) (buffers (now (answer .entry)) (now (flags .entry))) (now (space .entry)))
+        (ended e (buffers (now (answer .exit)) (now (flags .exit))) (now (space .exit)))) r ⌝ }
+{
+    pack(joint::decode_lost(
+        degree,
+        lengths,
+        points,
+        limit,
+        lost,
+        received,
+        answer,
+        flags,
+        space,
+    ))
+}
+
 // Writes the word of H(m) of a message.
 #[no_mangle]
 pub extern "C" fn gren_ring_encode(q: u32, m: u32, message: &[u8], word: &mut [u8]) -> u32
@@ -120,4 +152,23 @@ pub extern "C" fn gren_ring_decode(
         (ended e (buffers (now (answer .exit)) (now (flags .exit))) (now (space .exit)))) r ⌝ }
 {
     pack(ring::decode(q, m, limit, received, answer, flags, space))
+}
+
+// Decodes a received ring of which some sectors are lost.
+#[no_mangle]
+pub extern "C" fn gren_ring_decode_lost(
+    q: u32,
+    m: u32,
+    limit: u32,
+    lost: &[u8],
+    received: &[u8],
+    answer: &mut [u8],
+    flags: &mut [u8],
+    space: &mut [u8],
+) -> u32
+    ensures { λ r. ⌜ Answers packed (λ e. ring-lost.DecodesLost (now (lost .entry))
+        (rings.given q m limit (now (received .entry)) (buffers (now (answer .entry)) (now (flags .entry))) (now (space .entry)))
+        (ended e (buffers (now (answer .exit)) (now (flags .exit))) (now (space .exit)))) r ⌝ }
+{
+    pack(ring::decode_lost(q, m, limit, lost, received, answer, flags, space))
 }

@@ -2,13 +2,15 @@
 mod ends;
 
 ghost use mathlib.Core.Path.{_≡_};
-ghost use lib.ListN.{length};
-ghost use Rattle.mark.specs.Code.{codeOf};
+ghost use lib.ListN.{length, take};
+ghost use Rattle.mark.specs.Code.{codeOf, columns};
+ghost use Rattle.mark.specs.Lost.{core};
 ghost use Rattle.mark.proofs.Passed.{PassedDecoding};
 ghost use Rattle.ending.specs.Endings.{Ends};
 ghost use Rattle.joint.specs.Promises.{Decodes, buffers, given, left};
+ghost use Rattle.joint.specs.Lost.{DecodesLost, LostEnds};
 ghost use Rattle.finish.specs.Working.{released};
-ghost use Rattle.joint.specs.Working.{Blank};
+ghost use Rattle.joint.specs.Working.{Blank, Ready, RestEnds};
 use ending::Ending;
 use field::tables;
 
@@ -107,6 +109,149 @@ pub fn decode(
         lengths,
         points,
         limit,
+        received,
+        answer,
+        flags,
+        &mut space[..49152],
+    )
+}
+
+// How the decoding of the remaining columns ends; on `corrected` with the flags of the wrong ones at the front of `wrong`.
+fn decode_rest(
+    degree: u32,
+    lengths: &[u8],
+    points: &[u8],
+    limit: u32,
+    lost: &[u8],
+    received: &[u8],
+    wrong: &mut [u8],
+    space: &mut [u8],
+) -> Ending
+    requires { ⌜ Ready (codeOf degree (now points) (now lengths)) limit (now lost) (now received) × (length (now space) ≡ 49152) × (length (now wrong) ≡ 96) ⌝ }
+    ensures { λ r. ⌜ RestEnds (codeOf degree (now (points .entry)) (now (lengths .entry))) (now (lost .entry)) (now (received .entry)) limit r
+        (take (columns (core (codeOf degree (now (points .entry)) (now (lengths .entry))) (now (lost .entry)))) (now (wrong .exit)))
+        × (length (now (wrong .exit)) ≡ 96) × Blank (now (space .exit)) ⌝ }
+{
+    let gone = remaining::lost_flags(lost);
+    let mut held = [0u8; 96];
+    let mut kept = [0u8; 384];
+    let mut own = [0u8; 384];
+    let n = finish::gather(&gone[..points.len()], points, &mut held);
+    remaining::gather_rows(&gone[..points.len()], lengths, received, &mut kept);
+    let cells = lengths.len() * n;
+    work(
+        degree,
+        lengths,
+        &held[..n],
+        limit,
+        &kept[..cells],
+        &mut own[..cells],
+        &mut wrong[..n],
+        space,
+    )
+}
+
+// Decodes with lost columns, for a call that passed its checks.
+fn work_lost(
+    degree: u32,
+    lengths: &[u8],
+    points: &[u8],
+    limit: u32,
+    lost: &[u8],
+    received: &[u8],
+    answer: &mut [u8],
+    flags: &mut [u8],
+    space: &mut [u8],
+) -> Ending
+    requires { ⌜ Ready (codeOf degree (now points) (now lengths)) limit (now lost) (now received) × (length (now space) ≡ 49152) ⌝ }
+    requires { ⌜ (length (now answer) ≡ length (now received)) × (length (now flags) ≡ length (now points)) ⌝ }
+    ensures { λ r. ⌜ LostEnds (codeOf degree (now (points .entry)) (now (lengths .entry))) (now (lost .entry)) (now (received .entry)) limit
+        (buffers (now (answer .entry)) (now (flags .entry))) r (buffers (now (answer .exit)) (now (flags .exit)))
+        × Blank (now (space .exit)) ⌝ }
+{
+    let mut wrong = [0u8; 96];
+    let ending = decode_rest(
+        degree,
+        lengths,
+        points,
+        limit,
+        lost,
+        received,
+        &mut wrong,
+        space,
+    );
+    match ending {
+        Ending::Refused(_) => {}
+        Ending::Corrected(_) => {
+            let left = points.len() - lost.len();
+            remaining::complete(
+                degree,
+                lengths,
+                points,
+                lost,
+                &wrong[..left],
+                received,
+                answer,
+                flags,
+            );
+        }
+        Ending::Nothing => {}
+        Ending::Several(_) => {}
+        Ending::Hollow(_) => {}
+    }
+    ending
+}
+
+// Decodes a received array of which some columns are lost: refusals 1 to 7, 16, 17 and 8, which touch nothing; else the ending of
+// the array of the remaining columns, on `corrected` with the whole answer and its flags written, 2 at the lost columns, and in
+// every case with the first 49,152 bytes of the working space zero.
+pub fn decode_lost(
+    degree: u32,
+    lengths: &[u8],
+    points: &[u8],
+    limit: u32,
+    lost: &[u8],
+    received: &[u8],
+    answer: &mut [u8],
+    flags: &mut [u8],
+    space: &mut [u8],
+) -> Ending
+    ensures { λ r. ⌜ DecodesLost (now (lost .entry))
+        (given (codeOf degree (now (points .entry)) (now (lengths .entry))) limit (now (received .entry)) (buffers (now (answer .entry)) (now (flags .entry))) (now (space .entry)))
+        (left r (buffers (now (answer .exit)) (now (flags .exit))) (now (space .exit))) ⌝ }
+{
+    let k = mark::checks::lost_refusal(
+        degree,
+        lengths,
+        points,
+        limit,
+        lost,
+        received,
+        answer.len(),
+        flags.len(),
+        space.len(),
+    );
+    if k != 0 {
+        return Ending::Refused(k);
+    }
+    if lost.len() == 0 {
+        return work(
+            degree,
+            lengths,
+            points,
+            limit,
+            received,
+            answer,
+            flags,
+            &mut space[..49152],
+        );
+    }
+    work_lost(
+        degree,
+        lengths,
+        points,
+        limit,
+        lost,
         received,
         answer,
         flags,

@@ -1,7 +1,7 @@
 -- Tests of columns: their flags, and the points at whose columns they hold.
 --
 --   flags-length       there is one for each column
---   flag-right         where a flag is 0 the test fails
+--   flag-here          that of a column; flag-right, where it is 0 the test fails
 --   flags-same         tests that agree at each column have the same flags
 --   pointsWhere f xs   the points of xs at whose column f holds
 --   count-where        they are as many as the flags add up to
@@ -37,8 +37,11 @@ not-flagged : (b : Bool) → flag b ≡ 0 → b ≡ false
 not-flagged true e = absurd (omega arith)
 not-flagged false e = refl
 
+pub flag-here : (f : ℕ → Bool) (n i : ℕ) → i < n → getD (flagsFrom f 0 n) i 0 ≡ flag (f i)
+flag-here f n i q = flag-at f 0 n i q ∙ ap (λ (j : ℕ). flag (f j)) (zero-add i)
+
 pub flag-right : (f : ℕ → Bool) (n i : ℕ) → i < n → getD (flagsFrom f 0 n) i 0 ≡ 0 → f i ≡ false
-flag-right f n i q e = not-flagged (f i) (sym (flag-at f 0 n i q ∙ ap (λ (j : ℕ). flag (f j)) (zero-add i)) ∙ e)
+flag-right f n i q e = not-flagged (f i) (sym (flag-here f n i q) ∙ e)
 
 -- flags from column i + 1 on, counted from i on
 shift : (f : ℕ → Bool) (i n : ℕ) → flagsFrom f (suc i) n ≡ flagsFrom (λ j. f (suc j)) i n

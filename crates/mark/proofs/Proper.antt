@@ -62,7 +62,7 @@ lengths-test lo hi (k ∷ ks) =
 not-either : {P Q : Type 0} → (¬ P × ¬ Q) ↔ (¬ (P ⊎ Q))
 not-either = (λ h. ⊎-elim (h .0) (h .1), λ h. (λ p. h (inl p), λ q. h (inr q)))
 
-absent-test : (x : ℕ) (xs : List ℕ) → (isIn x xs ≡ false) ↔ (¬ Mem x xs)
+pub absent-test : (x : ℕ) (xs : List ℕ) → (isIn x xs ≡ false) ↔ (¬ Mem x xs)
 unfolding isIn
 absent-test x [] = (λ e m. m, λ h. refl)
 absent-test x (y ∷ xs) = Iff·trans

@@ -2,13 +2,16 @@
 --
 --   codeChecks c          1 to 4, before the lengths of the buffers
 --   encodeChecks, readChecks, decodeChecks    'Encoding checks 1 to 7, reading 1 to 7 then 9, decoding 1 to 8.'
+--   arrayChecks           1 to 7 of decoding
+--   remainingChecks       16, 17 and 8 of a decoding with lost columns; lostChecks, all of them
 use mathlib.Core.Bool.{Bool, not, _||_}
 use mathlib.Core.List.{List, [], _∷_, _++_}
 use Prim.Native.Nat.{ℕ, _*_}
 use lib.Dec.{eqb, ltb}
 use lib.ListN.{length}
-use Rattle.refusal.specs.Refusal.{Check, _when_, badDegree, outside, someOutside, badPoints, someOutsideField}
-use Rattle.mark.specs.Code.{Code, columns, rows, total, jointLimit}
+use Rattle.refusal.specs.Refusal.{Check, _when_, badDegree, outside, someOutside, badPoints, badColumns, someOutsideField}
+use Rattle.mark.specs.Code.{Code, columns, rows, total, largest, jointLimit}
+use Rattle.mark.specs.Lost.{core}
 
 abbrev pub codeChecks : Code → List Check
 codeChecks c =
@@ -41,11 +44,25 @@ encodeChecks c m a = codeChecks c ++ bufferChecks c m a m
 abbrev pub readChecks : Code → List ℕ → List ℕ → List Check
 readChecks c a m = codeChecks c ++ bufferChecks c m a a
 
-abbrev pub decodeChecks : Code → ℕ → List ℕ → List ℕ → List ℕ → List ℕ → List Check
-decodeChecks c τ y a f w =
+abbrev pub arrayChecks : Code → List ℕ → List ℕ → List ℕ → List ℕ → List Check
+arrayChecks c y a f w =
     codeChecks c
     ++ (5 when wrongLength (rows c * columns c) y || wrongLength (rows c * columns c) a || wrongLength (columns c) f || ltb (length w) spaceBytes)
     ∷ (6 when badPoints (c .degree) (c .points))
     ∷ (7 when someOutsideField (c .degree) y)
-    ∷ (8 when ltb (jointLimit c) τ)
     ∷ []
+
+abbrev pub decodeChecks : Code → ℕ → List ℕ → List ℕ → List ℕ → List ℕ → List Check
+decodeChecks c τ y a f w = arrayChecks c y a f w ++ (8 when ltb (jointLimit c) τ) ∷ []
+
+-- 02, 2026-03: '16, a lost column is not below n or is named twice; 17, fewer remaining columns than the largest k; both after 7
+-- and before 8'; 'joint and safe limit are worked out over those'
+abbrev pub remainingChecks : Code → ℕ → List ℕ → List Check
+remainingChecks c τ L =
+    (16 when badColumns (columns c) L)
+    ∷ (17 when ltb (columns (core c L)) (largest (c .lengths)))
+    ∷ (8 when ltb (jointLimit (core c L)) τ)
+    ∷ []
+
+abbrev pub lostChecks : Code → ℕ → List ℕ → List ℕ → List ℕ → List ℕ → List ℕ → List Check
+lostChecks c τ L y a f w = arrayChecks c y a f w ++ remainingChecks c τ L

@@ -6,7 +6,7 @@ ghost use Prim.Native.Nat.{ℕ, _*_, _≤_};
 ghost use lib.ListN.{length};
 ghost use Rattle.refusal.specs.Refusal.{_when_, badPoints, first, someOutside, someOutsideField};
 ghost use Rattle.mark.specs.Code.{codeOf, jointLimit, largest, total};
-ghost use Rattle.mark.specs.Checks.{bufferChecks, codeChecks, decodeChecks, encodeChecks, readChecks};
+ghost use Rattle.mark.specs.Checks.{arrayChecks, bufferChecks, codeChecks, decodeChecks, encodeChecks, lostChecks, readChecks, remainingChecks};
 
 // For the crates above: a byte as a count.
 pub fn wide(x: u8) -> usize
@@ -141,6 +141,31 @@ pub fn read_refusal(degree: u32, lengths: &[u8], points: &[u8], array: &[u8], ro
     buffers_refusal(degree, lengths, points, room, array.len(), array)
 }
 
+// The first of the checks 1 to 7 of decoding that applies, 0 where none does. Of the buffers for the answer, the flags and the
+// working space the checks read the lengths alone.
+fn array_refusal(
+    degree: u32,
+    lengths: &[u8],
+    points: &[u8],
+    received: &[u8],
+    answer: usize,
+    flags: usize,
+    space: usize,
+) -> u8
+    ensures { λ r. ⌜ ((a f w : List ℕ) → length a ≡ answer → length f ≡ flags → length w ≡ space
+        → r ≡ first (arrayChecks (codeOf degree (now (points .entry)) (now (lengths .entry))) (now (received .entry)) a f w)) ⌝ }
+{
+    let k = code_refusal(degree, lengths, points);
+    if k != 0 {
+        return k;
+    }
+    let right = cells(lengths, points);
+    if (received.len() != right) | (answer != right) | (flags != points.len()) | (space < 49152) {
+        return 5;
+    }
+    symbols_refusal(degree, points, received)
+}
+
 // For the crates above: the first check of decoding that applies, 0 where none does. Of the buffers for the answer, the
 // flags and the working space the checks read the lengths alone.
 pub fn decode_refusal(
@@ -157,15 +182,7 @@ pub fn decode_refusal(
         → r ≡ first (decodeChecks (codeOf degree (now (points .entry)) (now (lengths .entry)))
         limit (now (received .entry)) a f w)) ⌝ }
 {
-    let k = code_refusal(degree, lengths, points);
-    if k != 0 {
-        return k;
-    }
-    let right = cells(lengths, points);
-    if (received.len() != right) | (answer != right) | (flags != points.len()) | (space < 49152) {
-        return 5;
-    }
-    let k = symbols_refusal(degree, points, received);
+    let k = array_refusal(degree, lengths, points, received, answer, flags, space);
     if k != 0 {
         return k;
     }
@@ -173,4 +190,49 @@ pub fn decode_refusal(
         return 8;
     }
     0
+}
+
+// For the crates above: the first of the checks 16, 17 and 8 that applies to lost columns of a code, of whatever degree; 0
+// where none does.
+pub fn remaining_refusal(lengths: &[u8], points: &[u8], limit: u32, lost: &[u8]) -> u8
+    requires { ⌜ length (now lengths) ≤ 4 ⌝ }
+    requires { ⌜ (1 ≤ length (now points)) × (length (now points) ≤ 96) ⌝ }
+    requires { ⌜ someOutside 1 (length (now points)) (now lengths) ≡ false ⌝ }
+    ensures { λ r. ⌜ ((d : ℕ) → r ≡ first (remainingChecks (codeOf d (now (points .entry)) (now (lengths .entry))) limit (now (lost .entry)))) ⌝ }
+{
+    if refusal::bad_columns(points.len(), lost) {
+        return 16;
+    }
+    let left = points.len() - lost.len();
+    if left < largest(lengths) {
+        return 17;
+    }
+    if joint_limit(lengths, &points[..left]) < limit as usize {
+        return 8;
+    }
+    0
+}
+
+// For the crates above: the first check of decoding with lost columns that applies, 0 where none does. Of the buffers for the
+// answer, the flags and the working space the checks read the lengths alone.
+pub fn lost_refusal(
+    degree: u32,
+    lengths: &[u8],
+    points: &[u8],
+    limit: u32,
+    lost: &[u8],
+    received: &[u8],
+    answer: usize,
+    flags: usize,
+    space: usize,
+) -> u8
+    ensures { λ r. ⌜ ((a f w : List ℕ) → length a ≡ answer → length f ≡ flags → length w ≡ space
+        → r ≡ first (lostChecks (codeOf degree (now (points .entry)) (now (lengths .entry)))
+        limit (now (lost .entry)) (now (received .entry)) a f w)) ⌝ }
+{
+    let k = array_refusal(degree, lengths, points, received, answer, flags, space);
+    if k != 0 {
+        return k;
+    }
+    remaining_refusal(lengths, points, limit, lost)
 }

@@ -18,13 +18,14 @@ use Rattle.field.specs.declared.Value.the-variants.{Symbol}
 use Rattle.poly.specs.Poly.{All, value, valuesAt, add, scale}
 use Rattle.poly.proofs.Forms.{apart, reduce, newtonValue}
 use Rattle.mark.specs.Code.{Code, rows, columns, total, largest, encodedRows, encoded, flagsFrom, jointLimit}
+use Rattle.mark.specs.Lost.{right}
 use Rattle.mark.specs.Checks.{codeChecks, wrongLength, spaceBytes, encodeChecks, decodeChecks}
 use Rattle.mark.proofs.Parts.{all-map}
 use Rattle.basis.proofs.Mix.{mix}
 use Rattle.basis.proofs.Pivot
 use Rattle.basis.proofs.Lines.{keep, least, another, size, unit, startRows, start, lifted, fix-by, fix, step-by, step, run, solve, cut}
 use Rattle.ending.specs.Endings.{Buffers}
-use Rattle.ending.proofs.Model.{right, reducedRows, filledRow, filledIn, filledRows, beyond, divided, alone, within, lowest, decided}
+use Rattle.ending.proofs.Model.{reducedRows, filledRow, filledIn, filledRows, beyond, divided, alone, within, lowest, decided}
 use Rattle.ending.proofs.ModelExactly.{ends-exactly}
 use Rattle.ring.specs.Ring.{numbers, ringPoints, ringLength, ringWord}
 use Rattle.ring.specs.Checks.{badSize, badOrder}

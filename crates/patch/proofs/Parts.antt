@@ -12,11 +12,12 @@
 --   patch-is-lay              a patch is the row of the values written
 --   patch-lay                 a patch inside a row is a patch of the row
 --   lay-append, behind        two rows laid one behind the other are the two in one
+--   lay-rest                  a row laid at the front of what lies from a place on
 -- Assumes nothing.
 use mathlib.Core.Path.{_≡_, refl, sym, ap, _∙_}
 use mathlib.Core.List.{List, [], _∷_, _++_}
 use Prim.Native.Nat.{ℕ, zero, suc, _+_, _-_, _≤_, _<_}
-use native.Mathlib.Nat.{add-assoc, add-zero}
+use native.Mathlib.Nat.{add-assoc, add-zero, zero-add}
 use native.Mathlib.Decide.{ℕ-discrete, decLt}
 use native.Mathlib.Omega.{arith}
 use lib.ListN.{length, getD, take, drop, set, length-set, length-append, length-drop, List·getD-append, List·getD-eq-default}
@@ -173,6 +174,57 @@ lay-append at v w l fits =
         ∙ lay-inside (at + length v) w (lay at v l) (k - length v) (omega arith) (omega arith)
         ∙ sym (getD-append-add v w (k - length v) 0)
         ∙ ap (λ (i : ℕ). getD (v ++ w) i 0) e′
+
+-- a row laid at the front of what lies from a place on, as a slice that is lent from there on is given back
+pub lay-rest : (at : ℕ) (v l : List ℕ) {s : List ℕ} → at + length v ≤ length l → s ≡ lay 0 v (take (length l - at) (drop at l))
+    → take at l ++ (s ++ drop (length l - at) (drop at l)) ≡ lay at v l
+lay-rest at v l {s} fits is = is-lay at v l (take at l ++ (s ++ none)) fits whole below inside above
+  where
+    rest : List ℕ
+    rest = take (length l - at) (drop at l)
+
+    none : List ℕ
+    none = drop (length l - at) (drop at l)
+
+    front : length (take at l) ≡ at
+    front = length-take-le at l (omega arith)
+
+    left : length rest ≡ length l - at
+    left = length-take-le (length l - at) (drop at l) (omega (arith, length-drop at l))
+
+    size : length s ≡ length l - at
+    size = ap length is ∙ length-lay 0 v rest ∙ left
+
+    whole : length (take at l ++ (s ++ none)) ≡ length l
+    whole = omega (arith, length-append (take at l) (s ++ none), length-append s none, front, size, length-drop (length l - at) (drop at l), length-drop at l)
+
+    below : (i : ℕ) → i < at → getD (take at l ++ (s ++ none)) i 0 ≡ getD l i 0
+    below i h = List·getD-append (take at l) (s ++ none) 0 i (omega (arith, front)) ∙ getD-take at l i 0 h
+
+    -- behind the front, as far as the list goes
+    behind-front : (k : ℕ) → k < length l - at → getD (take at l ++ (s ++ none)) (at + k) 0 ≡ getD (lay 0 v rest) k 0
+    behind-front k h =
+        ap (λ (j : ℕ). getD (take at l ++ (s ++ none)) (j + k) 0) (sym front)
+        ∙ getD-append-add (take at l) (s ++ none) k 0
+        ∙ List·getD-append s none 0 k (omega (arith, size))
+        ∙ ap (λ (t : List ℕ). getD t k 0) is
+
+    inside : (k : ℕ) → k < length v → getD (take at l ++ (s ++ none)) (at + k) 0 ≡ getD v k 0
+    inside k h = behind-front k (omega arith) ∙ ap (λ (j : ℕ). getD (lay 0 v rest) j 0) (sym (zero-add k)) ∙ lay-inside 0 v rest k h (omega (arith, left))
+
+    above : (i : ℕ) → at + length v ≤ i → getD (take at l ++ (s ++ none)) i 0 ≡ getD l i 0
+    above i h = go (decLt i (length l))
+      where
+        go : Dec (i < length l) → getD (take at l ++ (s ++ none)) i 0 ≡ getD l i 0
+        go (yes g) =
+            let e : at + (i - at) ≡ i = omega arith in
+            ap (λ (j : ℕ). getD (take at l ++ (s ++ none)) j 0) (sym e)
+            ∙ behind-front (i - at) (omega arith)
+            ∙ lay-above 0 v rest (i - at) (omega arith)
+            ∙ getD-take (length l - at) (drop at l) (i - at) 0 (omega arith)
+            ∙ getD-drop at l (i - at) 0
+            ∙ ap (λ (j : ℕ). getD l j 0) e
+        go (no g) = List·getD-eq-default (take at l ++ (s ++ none)) 0 (omega (arith, whole)) ∙ sym (List·getD-eq-default l 0 (omega arith))
 
 pub laid-front : (v l : List ℕ) {n : ℕ} {s : List ℕ} → s ≡ lay 0 v l → length v ≡ n → n ≤ length l → take n s ≡ v
 unfolding part

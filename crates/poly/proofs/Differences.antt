@@ -2,9 +2,10 @@
 --
 --   length-apart, symbols-apart      one round
 --   length-reduce, symbols-reduce    k rounds
+--   last-round                       of as many rounds as there are points, the last has nothing to do
 --   length-left, symbols-left        the reduced values, which k rounds leave behind the Newton coefficients
 -- Assumes nothing.
-use mathlib.Core.Path.{_≡_, refl, ap}
+use mathlib.Core.Path.{_≡_, refl, ap, _∙_}
 use mathlib.Core.List.{List, [], _∷_}
 use Prim.Native.Nat.{ℕ, zero, suc}
 use native.Mathlib.Omega.{arith}
@@ -36,6 +37,17 @@ module _ {K : Type 0} (A : Arithmetic K) (𝓕 : Field A) where
   length-reduce (suc k) (x ∷ xs) [] l = l
   length-reduce (suc k) (x ∷ xs) (y ∷ ys) l =
       ap suc (length-reduce k xs (apart A x y xs ys) (length-apart x y xs ys (omega arith)))
+
+  pub last-round : (k : ℕ) (xs ys : List K) → length xs ≡ suc k → length ys ≡ suc k → reduce A k xs ys ≡ reduce A (suc k) xs ys
+  unfolding apart reduce
+  last-round k [] ys h l = absurd (omega arith)
+  last-round k (x ∷ xs) [] h l = absurd (omega arith)
+  last-round zero (x ∷ []) (y ∷ []) h l = refl
+  last-round zero (x ∷ []) (y ∷ y′ ∷ ys) h l = absurd (omega arith)
+  last-round zero (x ∷ x′ ∷ xs) (y ∷ ys) h l = absurd (omega arith)
+  last-round (suc k) (x ∷ xs) (y ∷ ys) h l =
+      ap (λ (us : List K). y ∷ us)
+      (last-round k xs (apart A x y xs ys) (omega arith) (length-apart x y xs ys (omega arith) ∙ omega arith))
 
   pub symbols-reduce : (k : ℕ) (xs ys : List K) → All In ys → All In (reduce A k xs ys)
   unfolding reduce

@@ -5,8 +5,9 @@
 --   badDegree        the test of number 1
 --   outside          a number is not from lo to hi: 2, 3, 4
 --   badPoints        the test of number 6
+--   badColumns       the test of number 16
 --   outsideField     the test of number 7, for one symbol; someOutsideField, for a list
-use Prim.Native.Nat.{ℕ, _^_}
+use Prim.Native.Nat.{ℕ, _-_, _^_}
 use mathlib.Core.Bool.{Bool, false, cond, not, _||_}
 use mathlib.Core.List.{List, [], _∷_}
 use lib.Dec.{eqb, leb, ltb}
@@ -54,3 +55,7 @@ repeated (x ∷ xs) = isIn x xs || repeated xs
 -- '6: a point is outside the field or stood earlier in the list'
 unfoldable pub badPoints : ℕ → List ℕ → Bool
 badPoints d xs = someOutsideField d xs || repeated xs
+
+-- 02, '16: a lost column is not below n or is named twice'; columns are counted from 0
+unfoldable pub badColumns : ℕ → List ℕ → Bool
+badColumns n L = someOutside 0 (n - 1) L || repeated L

@@ -1,6 +1,7 @@
 // The tests behind the refusals, each a function whose contract is its test.
 ghost use mathlib.Core.Path.{_≡_};
-ghost use Rattle.refusal.specs.Refusal.{badDegree, badPoints, outside, outsideField, someOutside, someOutsideField};
+ghost use Prim.Native.Nat.{_≤_};
+ghost use Rattle.refusal.specs.Refusal.{badColumns, badDegree, badPoints, outside, outsideField, repeated, someOutside, someOutsideField};
 
 // For the crates above: number 1 applies, the degree is not 2, 4 or 8.
 pub fn bad_degree(degree: u32) -> bool
@@ -62,6 +63,36 @@ pub fn some_outside_field(degree: u32, s: &[u8]) -> bool
     outside_field(degree, bits)
 }
 
+// An entry stood earlier in the list. Two earlier entries are looked at in a turn.
+fn repeated(xs: &[u8]) -> bool
+    ensures { λ r. ⌜ r ≡ repeated (now (xs .entry)) ⌝ }
+{
+    let mut repeated = false;
+    let mut i = 0;
+    'points: while i < xs.len() {
+        let mut j = 0;
+        while j + 1 < i {
+            if xs[j] == xs[i] {
+                repeated = true;
+                break 'points;
+            }
+            if xs[j + 1] == xs[i] {
+                repeated = true;
+                break 'points;
+            }
+            j += 2;
+        }
+        if j < i {
+            if xs[j] == xs[i] {
+                repeated = true;
+                break 'points;
+            }
+        }
+        i += 1;
+    }
+    repeated
+}
+
 // For the crates above: number 6 applies, a point is outside the field or stood earlier in the list.
 pub fn bad_points(degree: u32, xs: &[u8]) -> bool
     ensures { λ r. ⌜ r ≡ badPoints degree (now (xs .entry)) ⌝ }
@@ -69,18 +100,16 @@ pub fn bad_points(degree: u32, xs: &[u8]) -> bool
     if some_outside_field(degree, xs) {
         return true;
     }
-    let mut repeated = false;
-    let mut i = 0;
-    'points: while i < xs.len() {
-        let mut j = 0;
-        while j < i {
-            if xs[j] == xs[i] {
-                repeated = true;
-                break 'points;
-            }
-            j += 1;
-        }
-        i += 1;
+    repeated(xs)
+}
+
+// For the crates above: number 16 applies, a lost column is not below n or is named twice.
+pub fn bad_columns(n: usize, lost: &[u8]) -> bool
+    requires { ⌜ 1 ≤ n ⌝ }
+    ensures { λ r. ⌜ r ≡ badColumns n (now (lost .entry)) ⌝ }
+{
+    if some_outside(0, n - 1, lost) {
+        return true;
     }
-    repeated
+    repeated(lost)
 }

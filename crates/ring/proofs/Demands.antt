@@ -162,7 +162,8 @@ module _ (g : Given) (l : Joint.Left) (h : Decodes g l) where
         passed = p;
         answer = r .answer;
         decodes = Arrays.decodes on-array (Joint.left (l .ending) (r .answer) (l .space))
-            (sym (to-decode p (arrayOf (g .q) (g .received)) (g .lent .array) (is-array (g .q) (p .ring .size) (p .received)) (p .answer))) ends s;
+            (sym (to-decode p (arrayOf (g .q) (g .received)) (g .lent .array) (is-array (g .q) (p .ring .size) (p .received))
+            (p .answer))) ends s;
         ends = ends;
         back = r .back;
       }
@@ -177,7 +178,8 @@ module _ (g : Given) (l : Joint.Left) (h : Decodes g l) where
       go (suc k) z d = refused k z d
 
   not-refused : Through → (k : ℕ) → ¬ (l .ending ≡ Refused k)
-  not-refused t k e = subst (λ (e : Ending). Ends (ringCode (g .q) (g .m)) (arrayOf (g .q) (g .received)) (g .limit) (g .lent) e (t .answer)) e (t .ends)
+  not-refused t k e = subst (λ (e : Ending). Ends (ringCode (g .q) (g .m)) (arrayOf (g .q) (g .received)) (g .limit) (g .lent) e
+      (t .answer)) e (t .ends)
 
   -- what holds of a decoding that is not refused
   through-as : (e : Ending) → l .ending ≡ e → ((k : ℕ) → ¬ (e ≡ Refused k)) → Through
@@ -220,7 +222,11 @@ module _ (g : Given) (l : Joint.Left) (h : Decodes g l) where
       let (near, flags) = arrays.corrected-nearest on-array _ (t .decodes) w e in
       let back : l .buffers ≡ Joint.buffers (ringOf (g .q) (t .answer .array)) (t .answer .flags) =
       t .back ∙ ap (λ (e : Ending). carriedBack (g .q) e (t .answer)) e in
-      rw back (nearest-word (g .q) (g .m) (p .ring .size) (p .ring .order) (p .received) near, flags ∙ ring-flags (g .q) (g .m) (p .ring .size) (p .ring .order) (p .received) (near .code))
+      rw back (
+        nearest-word (g .q) (g .m) (p .ring .size) (p .ring .order) (p .received) near,
+        flags
+            ∙ ring-flags (g .q) (g .m) (p .ring .size) (p .ring .order) (p .received) (near .code),
+      )
 
   pub none-far : l .ending ≡ Nothing → (v : List ℕ) → RingWord (g .q) (g .m) v → g .limit < wrongSectors (g .q) (g .received) v
   none-far e =
@@ -235,13 +241,15 @@ module _ (g : Given) (l : Joint.Left) (h : Decodes g l) where
     pub safe-exactly : IsCorrected ↔ Near (g .q) (g .m) (g .received) (g .limit)
     safe-exactly =
         let p = ended .passed in
-        Iff·trans (arrays.safe-exactly on-array _ (ended .decodes) safe not) (near-exactly (g .q) (g .m) (p .ring .size) (p .ring .order) (p .received) (g .limit))
+        Iff·trans (arrays.safe-exactly on-array _ (ended .decodes) safe not)
+        (near-exactly (g .q) (g .m) (p .ring .size) (p .ring .order) (p .received) (g .limit))
 
     -- 'At the safe limit or below, any ending but "corrected" and "refused" means that no code array is within τ columns.'
     pub safe-otherwise : ¬ IsCorrected → (v : List ℕ) → RingWord (g .q) (g .m) v → g .limit < wrongSectors (g .q) (g .received) v
     safe-otherwise n =
         let p = ended .passed in
-        far-words (g .q) (g .m) (p .ring .size) (p .ring .order) (p .received) (arrays.safe-otherwise on-array _ (ended .decodes) safe not n)
+        far-words (g .q) (g .m) (p .ring .size) (p .ring .order) (p .received)
+        (arrays.safe-otherwise on-array _ (ended .decodes) safe not n)
 
   small : (k : ℕ) → Mem k (10 ∷ 11 ∷ 5 ∷ 7 ∷ 8 ∷ []) → k < 256
   small k (inl e) = omega arith

@@ -2,8 +2,10 @@
 --
 --   ring-passed      what 10 and 11 leave, and the checks that follow
 --   PassedEncoding, PassedReading, PassedDecoding    what the checks of a call leave; encoding, reading, decoding, from them
+--   PassedWord       what 10, 11, 5 and 7 of decoding leave; words, from them; PassedLost, what all checks with lost sectors leave;
+--                    losing, from them
 --   reads-on         a ring passes the checks of reading
---   to-encode, to-read, to-decode    then no check of the call on the array applies
+--   to-encode, to-read, to-array, to-decode, to-lose    then no check of the call on the array applies
 -- Assumes nothing.
 use mathlib.Core.Path.{_≡_, refl, sym, _∙_}
 use mathlib.Core.Bool.{false}
@@ -17,12 +19,13 @@ use Rattle.refusal.proofs.Laws.{miss, clear}
 use Rattle.field.specs.Symbols.{IsSymbol}
 use Rattle.poly.specs.Poly.{All}
 use Rattle.mark.specs.Code.{Code, rows, columns, total, IsMessage, jointLimit}
-use Rattle.mark.specs.Checks.{codeChecks, wrongLength, spaceBytes}
+use Rattle.mark.specs.Checks.{codeChecks, wrongLength, spaceBytes, remainingChecks}
 use Rattle.mark.specs.Checks as Mark
 use Rattle.mark.proofs.Proper.{neither, symbols-test, lengths-test, message}
 use Rattle.mark.proofs.Passed.{right-length, is-right, Counts}
+use Rattle.mark.proofs.Lost.{Remains, remains}
 use Rattle.ring.specs.Ring.{ringLengths, ringCode, IsRing}
-use Rattle.ring.specs.Checks.{badSize, badOrder, ringChecks, encodeChecks, readChecks, decodeChecks}
+use Rattle.ring.specs.Checks.{badSize, badOrder, ringChecks, encodeChecks, readChecks, wordChecks, decodeChecks, lostChecks}
 use Rattle.ring.proofs.Numbers.{length-numbers}
 use Rattle.ring.proofs.Sizes.{tested, ring-cells, ring-counts}
 
@@ -66,6 +69,33 @@ reading q m w f e =
       message = right-length _ f (l .0);
     }
 
+-- what 10, 11, 5 and 7 of decoding leave
+pub record PassedWord (q m : ℕ) (y w f s : List ℕ) : Type 0 where
+  pub ring : Passed q m
+  pub received : IsRing q y
+  pub answer : length w ≡ q * q * q
+  pub flags : length f ≡ q * q
+  pub space : spaceBytes ≤ length s
+
+pub words : (q m : ℕ) (y w f s : List ℕ) (ds : List Check) → 0 ≡ first (wordChecks q m y w f s ++ ds)
+    → PassedWord q m y w f s × (0 ≡ first ds)
+words q m y w f s ds e =
+    let p = ring-passed q m _ e in
+    let p₅ = clear 4 _ _ (p .1) in
+    let p₇ = clear 6 _ _ (p₅ .1) in
+    let l₃ = neither _ (ltb (length s) spaceBytes) .0 (p₅ .0) in
+    let l₂ = neither _ (wrongLength (q * q) f) .0 (l₃ .0) in
+    let l₁ = neither (wrongLength (q * q * q) y) (wrongLength (q * q * q) w) .0 (l₂ .0) in (
+      record {
+        ring = p .0;
+        received = record { count = right-length _ y (l₁ .0); symbols = symbols-test q y .0 (p₇ .0) };
+        answer = right-length _ w (l₁ .1);
+        flags = right-length _ f (l₂ .1);
+        space = ltb-false (length s) spaceBytes (l₃ .1);
+      },
+      p₇ .1,
+    )
+
 pub record PassedDecoding (q m τ : ℕ) (y w f s : List ℕ) : Type 0 where
   pub ring : Passed q m
   pub received : IsRing q y
@@ -76,19 +106,28 @@ pub record PassedDecoding (q m τ : ℕ) (y w f s : List ℕ) : Type 0 where
 
 pub decoding : (q m τ : ℕ) (y w f s : List ℕ) → 0 ≡ first (decodeChecks q m τ y w f s) → PassedDecoding q m τ y w f s
 decoding q m τ y w f s e =
-    let p = ring-passed q m _ e in
-    let p₅ = clear 4 _ _ (p .1) in
-    let p₇ = clear 6 _ _ (p₅ .1) in
-    let l₃ = neither _ (ltb (length s) spaceBytes) .0 (p₅ .0) in
-    let l₂ = neither _ (wrongLength (q * q) f) .0 (l₃ .0) in
-    let l₁ = neither (wrongLength (q * q * q) y) (wrongLength (q * q * q) w) .0 (l₂ .0) in
+    let p = words q m y w f s _ e in
     record {
-      ring = p .0;
-      received = record { count = right-length _ y (l₁ .0); symbols = symbols-test q y .0 (p₇ .0) };
-      answer = right-length _ w (l₁ .1);
-      flags = right-length _ f (l₂ .1);
-      space = ltb-false (length s) spaceBytes (l₃ .1);
-      limit = ltb-false (jointLimit (ringCode q m)) τ (clear 7 _ _ (p₇ .1) .0);
+      ring = p .0 .ring;
+      received = p .0 .received;
+      answer = p .0 .answer;
+      flags = p .0 .flags;
+      space = p .0 .space;
+      limit = ltb-false (jointLimit (ringCode q m)) τ (clear 7 _ _ (p .1) .0);
+    }
+
+pub record PassedLost (q m τ : ℕ) (L y w f s : List ℕ) : Type 0 where
+  pub word : PassedWord q m y w f s
+  pub rest : 0 ≡ first (remainingChecks (ringCode q m) τ L)
+  pub remain : Remains (ringCode q m) τ L
+
+pub losing : (q m τ : ℕ) (L y w f s : List ℕ) → 0 ≡ first (lostChecks q m τ L y w f s) → PassedLost q m τ L y w f s
+losing q m τ L y w f s e =
+    let p = words q m y w f s _ e in
+    record {
+      word = p .0;
+      rest = p .1;
+      remain = remains (ringCode q m) τ L (ring-counts q m (p .0 .ring .size) (p .0 .ring .order) .some-columns) (p .1);
     }
 
 -- a ring passes the checks of reading, with a buffer of the right length
@@ -96,7 +135,8 @@ pub reads-on : {q m : ℕ} → Passed q m → (f w : List ℕ) → IsRing q w �
 reads-on {q} {m} p f w h l =
     miss 10 _ _ (p .size)
     ∙ miss 11 _ _ (p .order)
-    ∙ miss 5 _ _ (neither (wrongLength (total (ringLengths q m)) f) (wrongLength (q * q * q) w) .1 (is-right _ f l, is-right _ w (h .count)))
+    ∙ miss 5 _ _ (neither (wrongLength (total (ringLengths q m)) f) (wrongLength (q * q * q) w) .1
+    (is-right _ f l, is-right _ w (h .count)))
     ∙ miss 7 _ _ (symbols-test q w .1 (h .symbols))
     ∙ unfold first in refl
 
@@ -142,18 +182,28 @@ pub to-read : {q m : ℕ} {w f : List ℕ} → PassedReading q m w f → (a : Li
     → first (Mark.readChecks (ringCode q m) a f) ≡ 0
 to-read {f = f} p a h = buffers-pass (p .ring) f a a (p .message) (h .count) (h .symbols)
 
+-- 1 to 7 of decoding the array do not apply
+pub to-array : {q m : ℕ} → Passed q m → (a b f s : List ℕ) → IsRing q a → length b ≡ q * q * q → length f ≡ q * q → spaceBytes ≤ length s
+    → (ds : List Check) → first (Mark.arrayChecks (ringCode q m) a b f s ++ ds) ≡ first ds
+to-array {q} {m} p a b f s h k l z ds =
+    onward p _
+    ∙ miss 5 _ _ (neither _ (ltb (length s) spaceBytes) .1 (
+      neither _ (wrongLength (columns (ringCode q m)) f) .1 (
+        neither (wrongLength (rows (ringCode q m) * columns (ringCode q m)) a) _ .1 (right-cells p a (h .count), right-cells p b k),
+        right-columns p f l,
+      ),
+      le-ltb (length s) spaceBytes z,
+    ))
+    ∙ miss 6 _ _ (tested q (p .size) .points)
+    ∙ miss 7 _ _ (symbols-test q a .1 (h .symbols))
+
 pub to-decode : {q m τ : ℕ} {y w f s : List ℕ} → PassedDecoding q m τ y w f s → (a b : List ℕ) → IsRing q a → length b ≡ q * q * q
     → first (Mark.decodeChecks (ringCode q m) τ a b f s) ≡ 0
 to-decode {q} {m} {τ} {f = f} {s = s} p a b h k =
-    onward (p .ring) _
-    ∙ miss 5 _ _ (neither _ (ltb (length s) spaceBytes) .1 (
-      neither _ (wrongLength (columns (ringCode q m)) f) .1 (
-        neither (wrongLength (rows (ringCode q m) * columns (ringCode q m)) a) _ .1 (right-cells (p .ring) a (h .count), right-cells (p .ring) b k),
-        right-columns (p .ring) f (p .flags),
-      ),
-      le-ltb (length s) spaceBytes (p .space),
-    ))
-    ∙ miss 6 _ _ (tested q (p .ring .size) .points)
-    ∙ miss 7 _ _ (symbols-test q a .1 (h .symbols))
+    to-array (p .ring) a b f s h k (p .flags) (p .space) _
     ∙ miss 8 _ _ (le-ltb (jointLimit (ringCode q m)) τ (p .limit))
     ∙ unfold first in refl
+
+pub to-lose : {q m τ : ℕ} {L y w f s : List ℕ} → PassedLost q m τ L y w f s → (a b : List ℕ) → IsRing q a → length b ≡ q * q * q
+    → first (Mark.lostChecks (ringCode q m) τ L a b f s) ≡ 0
+to-lose {f = f} {s = s} p a b h k = to-array (p .word .ring) a b f s h k (p .word .flags) (p .word .space) _ ∙ sym (p .rest)

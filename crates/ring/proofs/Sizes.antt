@@ -59,8 +59,24 @@ pub bounds : (q : ℕ) → badSize q ≡ false → Bounds q
 bounds q h = go (sizes q h)
   where
     go : (q ≡ 2) ⊎ (q ≡ 4) → Bounds q
-    go (inl e) = rw e (record { some = omega arith; side = omega arith; columns = omega arith; symbols = omega arith; some-symbols = omega arith; cells = omega arith })
-    go (inr e) = rw e (record { some = omega arith; side = omega arith; columns = omega arith; symbols = omega arith; some-symbols = omega arith; cells = omega arith })
+    go (inl e) = rw e (record {
+      some = omega arith;
+      side = omega arith;
+      columns = omega arith;
+      symbols = omega arith;
+      some-symbols =
+          omega arith;
+      cells = omega arith;
+    })
+    go (inr e) = rw e (record {
+      some = omega arith;
+      side = omega arith;
+      columns = omega arith;
+      symbols = omega arith;
+      some-symbols =
+          omega arith;
+      cells = omega arith;
+    })
 
 -- 'Each x has q points', and no y stands in a sector twice
 abbrev goodSector : ℕ → ℕ → Bool

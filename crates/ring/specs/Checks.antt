@@ -5,6 +5,8 @@
 --   badOrder q m          the test of number 11
 --   ringChecks q m        10 and 11
 --   encodeChecks, readChecks, decodeChecks
+--   wordChecks            10, 11, 5 and 7 of decoding
+--   lostChecks            those of a decoding with lost sectors: 16, 17 and 8 are those of the array
 use mathlib.Core.Bool.{Bool, not, _||_}
 use mathlib.Core.List.{List, [], _∷_, _++_}
 use Prim.Native.Nat.{ℕ, _-_, _*_}
@@ -12,7 +14,7 @@ use lib.Dec.{eqb, ltb}
 use lib.ListN.{length}
 use Rattle.refusal.specs.Refusal.{Check, _when_, outside, someOutsideField}
 use Rattle.mark.specs.Code.{total, jointLimit}
-use Rattle.mark.specs.Checks.{wrongLength, spaceBytes}
+use Rattle.mark.specs.Checks.{wrongLength, spaceBytes, remainingChecks}
 use Rattle.ring.specs.Ring.{ringLengths, ringCode}
 
 -- '10: Hermitian: q is not 2 or 4'
@@ -38,10 +40,16 @@ encodeChecks q m f w = ringChecks q m ++ bufferChecks q m f w f
 abbrev pub readChecks : ℕ → ℕ → List ℕ → List ℕ → List Check
 readChecks q m w f = ringChecks q m ++ bufferChecks q m f w w
 
-abbrev pub decodeChecks : ℕ → ℕ → ℕ → List ℕ → List ℕ → List ℕ → List ℕ → List Check
-decodeChecks q m τ y w f s =
+abbrev pub wordChecks : ℕ → ℕ → List ℕ → List ℕ → List ℕ → List ℕ → List Check
+wordChecks q m y w f s =
     ringChecks q m
     ++ (5 when wrongLength (q * q * q) y || wrongLength (q * q * q) w || wrongLength (q * q) f || ltb (length s) spaceBytes)
     ∷ (7 when someOutsideField q y)
-    ∷ (8 when ltb (jointLimit (ringCode q m)) τ)
     ∷ []
+
+abbrev pub decodeChecks : ℕ → ℕ → ℕ → List ℕ → List ℕ → List ℕ → List ℕ → List Check
+decodeChecks q m τ y w f s = wordChecks q m y w f s ++ (8 when ltb (jointLimit (ringCode q m)) τ) ∷ []
+
+-- 02, 2026-03: 'Rings take lost sectors the same way.'
+abbrev pub lostChecks : ℕ → ℕ → ℕ → List ℕ → List ℕ → List ℕ → List ℕ → List ℕ → List Check
+lostChecks q m τ L y w f s = wordChecks q m y w f s ++ remainingChecks (ringCode q m) τ L

@@ -5,9 +5,10 @@ ghost use mathlib.Core.List.{List, _++_};
 ghost use Prim.Native.Nat.{ℕ};
 ghost use lib.ListN.{length};
 ghost use Rattle.refusal.specs.Refusal.{first};
-ghost use Rattle.mark.specs.Code.{jointLimit, total};
+ghost use Rattle.mark.specs.Code.{total};
+ghost use Rattle.mark.specs.Checks.{remainingChecks};
 ghost use Rattle.ring.specs.Ring.{ringCode, ringLengths};
-ghost use Rattle.ring.specs.Checks.{badOrder, badSize, bufferChecks, decodeChecks, encodeChecks, readChecks, ringChecks};
+ghost use Rattle.ring.specs.Checks.{badOrder, badSize, bufferChecks, encodeChecks, lostChecks, readChecks, ringChecks};
 use crate::shape;
 
 // Number 10 applies, q is not 2 or 4.
@@ -51,15 +52,15 @@ fn total(q: u32, m: u32) -> usize
     mark::checks::total(&ks[..shape::side(q)])
 }
 
-// The joint limit of H(m).
-fn joint_limit(q: u32, m: u32) -> usize
+// The first of the checks 16, 17 and 8 that applies to lost sectors of H(m), 0 where none does.
+fn remaining_refusal(q: u32, m: u32, limit: u32, lost: &[u8]) -> u8
     requires { ⌜ (badSize q ≡ false) × (badOrder q m ≡ false) ⌝ }
-    ensures { λ r. ⌜ r ≡ jointLimit (ringCode q m) ⌝ }
+    ensures { λ r. ⌜ r ≡ first (remainingChecks (ringCode q m) limit (now (lost .entry))) ⌝ }
 {
     let n = shape::side(q);
     let ks = shape::lengths(q, m);
     let xs = shape::columns(q);
-    mark::checks::joint_limit(&ks[..n], &xs[..n * n])
+    mark::checks::remaining_refusal(&ks[..n], &xs[..n * n], limit, lost)
 }
 
 // The first of the checks 10, 11, 5 and 7 that applies to a message and a word of these lengths, of which the symbols are the
@@ -97,19 +98,20 @@ pub(crate) fn read_refusal(q: u32, m: u32, word: &[u8], room: usize) -> u8
     buffers_refusal(q, m, room, word.len(), word)
 }
 
-// The first check of decoding that applies, 0 where none does. Of the buffers for the answer, the flags and the working space
-// the checks read the lengths alone.
-pub(crate) fn decode_refusal(
+// The first check of decoding with lost sectors that applies, 0 where none does. Of the buffers for the answer, the flags and the
+// working space the checks read the lengths alone.
+pub(crate) fn lost_refusal(
     q: u32,
     m: u32,
     limit: u32,
+    lost: &[u8],
     received: &[u8],
     answer: usize,
     flags: usize,
     space: usize,
 ) -> u8
     ensures { λ r. ⌜ ((w f s : List ℕ) → length w ≡ answer → length f ≡ flags → length s ≡ space
-        → r ≡ first (decodeChecks q m limit (now (received .entry)) w f s)) ⌝ }
+        → r ≡ first (lostChecks q m limit (now (lost .entry)) (now (received .entry)) w f s)) ⌝ }
 {
     let k = ring_refusal(q, m);
     if k != 0 {
@@ -124,8 +126,5 @@ pub(crate) fn decode_refusal(
     if refusal::some_outside_field(q, received) {
         return 7;
     }
-    if joint_limit(q, m) < limit as usize {
-        return 8;
-    }
-    0
+    remaining_refusal(q, m, limit, lost)
 }

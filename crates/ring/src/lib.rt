@@ -9,8 +9,9 @@ ghost use Rattle.mark.specs.Promises.{left};
 ghost use Rattle.joint.specs.Promises as Joint;
 ghost use Rattle.finish.specs.Working.{released};
 ghost use Rattle.ring.specs.Ring.{IsRing, ringOf, ringWord};
-ghost use Rattle.ring.specs.Checks.{badSize, decodeChecks, encodeChecks, readChecks};
-ghost use Rattle.ring.specs.Promises.{Decodes, Encodes, Reads, RingEnds, given};
+ghost use Rattle.ring.specs.Checks.{badSize, encodeChecks, lostChecks, readChecks};
+ghost use Rattle.ring.specs.Promises.{Decodes, Encodes, Reads, given};
+ghost use Rattle.ring.specs.Lost.{DecodesLost, LostRingEnds};
 
 mod carry;
 mod checks;
@@ -86,18 +87,19 @@ fn carry_back(ending: Ending, q: u32, own: &[u8], answer: &mut [u8])
     }
 }
 
-// Decodes a ring that passed the checks: its array, with the answer carried back.
+// Decodes a ring that passed the checks: its array, with the answer carried back. The lost sectors are the array's lost columns.
 fn decode_ring(
     q: u32,
     m: u32,
     limit: u32,
+    lost: &[u8],
     received: &[u8],
     answer: &mut [u8],
     flags: &mut [u8],
     space: &mut [u8],
 ) -> Ending
-    requires { ⌜ 0 ≡ first (decodeChecks q m limit (now received) (now answer) (now flags) (now space)) ⌝ }
-    ensures { λ r. ⌜ RingEnds q m limit (now (received .entry)) (Joint.buffers (now (answer .entry)) (now (flags .entry)))
+    requires { ⌜ 0 ≡ first (lostChecks q m limit (now lost) (now received) (now answer) (now flags) (now space)) ⌝ }
+    ensures { λ r. ⌜ LostRingEnds q m limit (now (lost .entry)) (now (received .entry)) (Joint.buffers (now (answer .entry)) (now (flags .entry)))
         r (Joint.buffers (now (answer .exit)) (now (flags .exit)))
         × (now (space .exit) ≡ Joint.cleared (now (space .entry))) ⌝ }
 {
@@ -107,11 +109,12 @@ fn decode_ring(
     let mut array = [0u8; 64];
     let mut own = [0u8; 64];
     carry::to_array(q, received, &mut array[..received.len()]);
-    let ending = joint::decode(
+    let ending = joint::decode_lost(
         q,
         &ks[..n],
         &xs[..n * n],
         limit,
+        lost,
         &array[..received.len()],
         &mut own[..received.len()],
         flags,
@@ -119,6 +122,39 @@ fn decode_ring(
     );
     carry_back(ending, q, &own[..received.len()], answer);
     ending
+}
+
+// Decodes a received ring of which some sectors are lost: refusals 10, 11, 5, 7, 16, 17 and 8, which touch nothing; else the ending
+// of the remaining sectors, on `corrected` with the whole word and its flags written, 2 at the lost sectors, and in every case with
+// the first 49,152 bytes of the working space zero.
+pub fn decode_lost(
+    q: u32,
+    m: u32,
+    limit: u32,
+    lost: &[u8],
+    received: &[u8],
+    answer: &mut [u8],
+    flags: &mut [u8],
+    space: &mut [u8],
+) -> Ending
+    ensures { λ r. ⌜ DecodesLost (now (lost .entry))
+        (given q m limit (now (received .entry)) (Joint.buffers (now (answer .entry)) (now (flags .entry))) (now (space .entry)))
+        (Joint.left r (Joint.buffers (now (answer .exit)) (now (flags .exit))) (now (space .exit))) ⌝ }
+{
+    let k = checks::lost_refusal(
+        q,
+        m,
+        limit,
+        lost,
+        received,
+        answer.len(),
+        flags.len(),
+        space.len(),
+    );
+    if k != 0 {
+        return Ending::Refused(k);
+    }
+    decode_ring(q, m, limit, lost, received, answer, flags, space)
 }
 
 // Decodes a received ring: refusals 10, 11, 5, 7 and 8, which touch nothing; else the ending, on `corrected` with the word and
@@ -136,17 +172,5 @@ pub fn decode(
         (given q m limit (now (received .entry)) (Joint.buffers (now (answer .entry)) (now (flags .entry))) (now (space .entry)))
         (Joint.left r (Joint.buffers (now (answer .exit)) (now (flags .exit))) (now (space .exit))) ⌝ }
 {
-    let k = checks::decode_refusal(
-        q,
-        m,
-        limit,
-        received,
-        answer.len(),
-        flags.len(),
-        space.len(),
-    );
-    if k != 0 {
-        return Ending::Refused(k);
-    }
-    decode_ring(q, m, limit, received, answer, flags, space)
+    decode_lost(q, m, limit, &received[..0], received, answer, flags, space)
 }

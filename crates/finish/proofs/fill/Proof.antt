@@ -6,7 +6,7 @@ use native.Mathlib.Omega.{arith}
 use lib.ListN.{length, replicate}
 use lib.Seq.{length-take-le}
 use Rattle.patch.proofs.Parts.{laid-front}
-use Rattle.ending.proofs.Model.{right}
+use Rattle.mark.specs.Lost.{right}
 use Rattle.finish.proofs.Marks.{right-most}
 use Rattle.finish.proofs.Filled.{flags-count}
 use borrow.Author.Needs.{needs}

@@ -2,7 +2,7 @@
 -- Assumes nothing.
 use mathlib.Core.Path.{_≡_, sym, ap, _∙_}
 use mathlib.Core.List.{List}
-use Prim.Native.Nat.{ℕ, _≤_}
+use Prim.Native.Nat.{ℕ, suc, _-_, _≤_}
 use native.Mathlib.Omega.{arith}
 use lib.ListN.{length, take, replicate}
 use lib.Seq.{length-take-le}
@@ -13,8 +13,10 @@ use Rattle.field.proofs.Instance.{field}
 use Rattle.poly.proofs.Differences.{symbols-reduce}
 use Rattle.mark.proofs.Parts.{all-take}
 use Rattle.rows.proofs.Symbols.{symbols-held}
-use Rattle.ending.proofs.Model.{right}
-use Rattle.finish.proofs.Marks.{right-most, all-right}
+use Rattle.rows.proofs.Sharing.{fewer-rounds}
+use Rattle.mark.specs.Lost.{right}
+use Rattle.mark.proofs.Right.{all-right}
+use Rattle.finish.proofs.Marks.{right-most}
 use Rattle.finish.proofs.Filled.{newton, row-filled}
 use borrow.Author.Needs.{needs}
 use Rattle.finish.proofs.fill_row.Statement.{statement}
@@ -30,6 +32,9 @@ module _ (c : tie.Start) where
   fits : length gathered ≤ 112
   fits = omega (arith, most)
 
+  rounds : length (c .args .nodes .now) ≡ suc (length (c .args .nodes .now) - 1)
+  rounds = omega (arith, c .pre .1 .1 .0 .0)
+
   few : length (c .args .nodes .now) ≤ 96
   few = omega (arith, c .pre .1 .1 .0 .1, most)
 
@@ -38,6 +43,9 @@ slice-aggregate-gather c = search needs
 
 gather-requires : tie.Need-gather-requires
 gather-requires c κs = search needs
+
+sub-reduce : tie.Need-sub-reduce
+sub-reduce c = omega (arith, c .before .before .before .before .before .before .before .before .before .before .pre .1 .1 .0 .0)
 
 slice-aggregate-reduce : tie.Need-slice-aggregate-reduce
 slice-aggregate-reduce c = search needs
@@ -53,7 +61,7 @@ reduce-requires c κs =
         (
           symbols-held d (gathered start) 112 (c .before .before .gather .ensures .1) (fits start) (omega (arith, few start))
               (all-right (IsSymbol d) (start .args .flags .now) (start .args .row .now) (p .1 .0 .3)),
-          p .1 .1 .1 .2,
+          fewer-rounds _ _ (p .1 .1 .1 .2) (omega arith),
         ),
       ),
     )
@@ -74,7 +82,7 @@ evaluate-requires c κs = let p = c .before .before .before .before .before .bef
     let 𝓕 = field d (p .0 .0) in
     let us = c .before .before .before .reduce .last .1 .1 .1 .1 .1 .0 in
     let size : length (take k us) ≡ k = length-take-le k us (omega (arith, few (c .before .before .before .before .before .before .before .before .before .before .before .before .before .before .before), c .before .before .before .reduce .kept, c .before .before .before .before .before .before .gather .kept)) in
-    let is = newton d (c .before .before .before .before .before .before .before .before .before .before .before .before .before .before .before .args .nodes .now) (c .before .before .before .before .before .before .before .before .before .before .before .before .before .before .before .args .wrong .now) (c .before .before .before .before .before .before .before .before .before .before .before .before .before .before .before .args .flags .now) (c .before .before .before .before .before .before .before .before .before .before .before .before .before .before .before .args .marks .now) (c .before .before .before .before .before .before .before .before .before .before .before .before .before .before .before .args .row .now) (replicate 112 0) us (c .before .before .before .before .before .before .gather .ensures .1) (c .before .before .before .reduce .ensures) (p .1 .1 .0 .1) (fits (c .before .before .before .before .before .before .before .before .before .before .before .before .before .before .before)) in (
+    let is = newton d 𝓕 (c .before .before .before .before .before .before .before .before .before .before .before .before .before .before .before .args .nodes .now) (c .before .before .before .before .before .before .before .before .before .before .before .before .before .before .before .args .wrong .now) (c .before .before .before .before .before .before .before .before .before .before .before .before .before .before .before .args .flags .now) (c .before .before .before .before .before .before .before .before .before .before .before .before .before .before .before .args .marks .now) (c .before .before .before .before .before .before .before .before .before .before .before .before .before .before .before .args .row .now) (replicate 112 0) us (c .before .before .before .before .before .before .gather .ensures .1) (rounds (c .before .before .before .before .before .before .before .before .before .before .before .before .before .before .before)) (c .before .before .before .reduce .ensures) (p .1 .1 .0 .1) (fits (c .before .before .before .before .before .before .before .before .before .before .before .before .before .before .before)) in (
       (p .0 .0, p .0 .1),
       (
         (
@@ -106,7 +114,7 @@ returns c = let p = c .before .before .before .before .before .before .before .b
     let a = c .before .before .before .before .before .before .before .before .before .before .before .before .before .before .before .before .before .before .before .before .before .before .args in
     c .before .before .merge .ensures
     ∙ ap (λ (v : List ℕ). lay (a .at) v (a .s .now))
-    (row-filled (a .degree) (a .nodes .now) (a .wrong .now) (a .flags .now) (a .marks .now) (a .row .now) (replicate 112 0) _ (c .before .before .before .before .before .before .before .before .before .before .before .before .before .gather .ensures .1) (c .before .before .before .before .before .before .before .before .before .before .reduce .ensures) (p .1 .1 .0 .1) (fits (c .before .before .before .before .before .before .before .before .before .before .before .before .before .before .before .before .before .before .before .before .before .before)) (field (a .degree) (p .0 .0)) (replicate 96 0) (c .before .before .before .before .before .before .evaluate .ensures) (omega (arith, p .1 .1 .0 .2)))
+    (row-filled (a .degree) (field (a .degree) (p .0 .0)) (a .nodes .now) (a .wrong .now) (a .flags .now) (a .marks .now) (a .row .now) (replicate 112 0) _ (c .before .before .before .before .before .before .before .before .before .before .before .before .before .gather .ensures .1) (rounds (c .before .before .before .before .before .before .before .before .before .before .before .before .before .before .before .before .before .before .before .before .before .before)) (c .before .before .before .before .before .before .before .before .before .before .reduce .ensures) (p .1 .1 .0 .1) (fits (c .before .before .before .before .before .before .before .before .before .before .before .before .before .before .before .before .before .before .before .before .before .before)) (replicate 96 0) (c .before .before .before .before .before .before .evaluate .ensures) (omega (arith, p .1 .1 .0 .2)))
 
 pub fill-row-spec : {M : Type 1} → statement M
 fill-row-spec =
@@ -114,6 +122,7 @@ fill-row-spec =
     (tie.spec
     slice-aggregate-gather
     gather-requires
+    sub-reduce
     slice-aggregate-reduce
     reduce-requires
     array-share-prefix-us

@@ -18,7 +18,8 @@ use Rattle.mark.proofs.Passed.{up-to-largest}
 use Rattle.ending.proofs.Model.{filledRows}
 use Rattle.conditions.proofs.Places.{RowAt, next-row, row-room, row-size}
 use Rattle.conditions.proofs.Reduced.{row-within}
-use Rattle.finish.proofs.Marks.{right-most, all-right}
+use Rattle.mark.proofs.Right.{all-right}
+use Rattle.finish.proofs.Marks.{right-most}
 use Rattle.finish.proofs.Filled.{row-is, filled-more, flags-count, wrong-count, enough-right, longest-right, right-points}
 use borrow.Author.Needs.{needs}
 use Rattle.finish.proofs.fill_rows.Statement.{statement}

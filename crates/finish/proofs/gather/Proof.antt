@@ -7,7 +7,7 @@ use native.Mathlib.Omega.{arith}
 use lib.ListN.{length, drop}
 use Rattle.patch.specs.Parts.{lay}
 use Rattle.patch.proofs.Parts.{lay-none}
-use Rattle.ending.proofs.Model.{right}
+use Rattle.mark.specs.Lost.{right}
 use Rattle.finish.proofs.Marks.{right-most, right-none, Gathered, gathered-in, gathered-out}
 use borrow.Author.Needs.{needs}
 use Rattle.finish.proofs.gather.Statement.{statement}

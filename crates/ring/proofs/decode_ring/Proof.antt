@@ -6,156 +6,156 @@ use Prim.Native.Nat.{ℕ, _*_, _≤_}
 use native.Mathlib.Omega.{arith}
 use lib.ListN.{length, take, drop}
 use lib.Seq.{length-take-le}
-use Rattle.ending.specs.Endings.{Ends}
 use Rattle.joint.specs.Promises.{buffers, left, cleared}
-use Rattle.ring.specs.Ring.{numbers, ringLengths, ringCode}
+use Rattle.joint.specs.Lost.{LostEnds}
+use Rattle.ring.specs.Ring.{numbers, ringLengths, ringCode, ArrayOf}
 use Rattle.ring.proofs.Sizes.{bounds}
 use Rattle.ring.proofs.Carried.{sides}
-use Rattle.ring.proofs.Passed.{PassedDecoding, decoding}
+use Rattle.ring.proofs.Passed.{PassedLost, losing}
 use Rattle.ring.proofs.Lent.{Front, lent, lengths-front, columns-front, blank, given-back}
-use Rattle.ring.proofs.Promised.{ended-by, answer-ring, ring-ends}
+use Rattle.ring.proofs.Lost.{lost-ended, lost-answer, lost-ring-ends}
 use borrow.Author.Needs.{needs}
 use Rattle.ring.proofs.decode_ring.Statement.{statement}
 use Rattle.ring.proofs.decode_ring.Tie as tie
 
-passed : (s : tie.Start) → PassedDecoding (s .args .q) (s .args .m) (s .args .limit) (s .args .received .now) (s .args .answer .now) (s .args .flags .now) (s .args .space .now)
-passed s = decoding _ _ _ _ _ _ _ (s .pre)
+module _ (s : tie.Start) where
+  abbrev y : List ℕ
+  y = s .args .received .now
 
-short : (s : tie.Start) → length (s .args .received .now) ≤ 64
-short s = omega (arith, passed s .received .count, bounds (s .args .q) (passed s .ring .size) .symbols)
+  passed : PassedLost (s .args .q) (s .args .m) (s .args .limit) (s .args .lost .now) y (s .args .answer .now) (s .args .flags .now)
+      (s .args .space .now)
+  passed = losing _ _ _ _ _ _ _ _ (s .pre)
+
+  short : length y ≤ 64
+  short = omega (arith, passed .word .received .count, bounds (s .args .q) (passed .word .ring .size) .symbols)
+
+  -- a part of 64 symbols that is as long as the ring
+  size : length (take (length y) blank) ≡ length y
+  size = length-take-le _ blank short
 
 -- the message lengths and the points that are lent
-ks : (c : tie.After-columns) → Front (c .before .before .side .result) (c .before .lengths .result) (ringLengths (c .before .before .before .before .before .before .before .args .q) (c .before .before .before .before .before .before .before .args .m))
-ks c = lengths-front (c .before .before .before .before .before .before .before .args .q) (c .before .before .before .before .before .before .before .args .m) _ _ (c .before .before .side .ensures) (c .before .lengths .ensures)
+module _ (c : tie.After-columns) where
+  abbrev begun : tie.Start
+  begun = c .before .before .before .before .before .before .before .before
 
-xs : (c : tie.After-columns) → Front (c .before .before .side .result * c .before .before .side .result) (c .columns .result) (numbers (c .before .before .before .before .before .before .before .args .q * c .before .before .before .before .before .before .before .args .q))
-xs c = columns-front (c .before .before .before .before .before .before .before .args .q) _ _ (c .before .before .side .ensures) (c .columns .ensures)
+  abbrev side : ℕ
+  side = c .before .before .side .result
+
+  is-side : side ≡ begun .args .q
+  is-side = c .before .before .side .ensures
+
+  ks : Front side (c .before .lengths .result) (ringLengths (begun .args .q) (begun .args .m))
+  ks = lengths-front (begun .args .q) (begun .args .m) _ _ is-side (c .before .lengths .ensures)
+
+  xs : Front (side * side) (c .columns .result) (numbers (begun .args .q * begun .args .q))
+  xs = columns-front (begun .args .q) _ _ is-side (c .columns .ensures)
 
 -- the ring's array, in the array that it was made in
-array : (c : tie.After-to-array)
-    → Front (length (c .before .before .before .before .before .before .before .before .before .args .received .now)) (c .to-array .last .1 .1 .0 ++ drop (length (c .before .before .before .before .before .before .before .before .before .args .received .now)) blank) (c .to-array .last .1 .1 .0)
-array c =
-    let start = c .before .before .before .before .before .before .before .before .before in
-    given-back (length (start .args .received .now)) (c .to-array .last .1 .1 .0) (drop (length (start .args .received .now)) blank) (c .to-array .ensures .array .count ∙ sym (passed start .received .count))
+module _ (c : tie.After-to-array) where
+  abbrev start : tie.Start
+  start = begun (c .before .before)
+
+  abbrev made : List ℕ
+  made = c .to-array .last .1 .1 .0
+
+  is-array : ArrayOf (start .args .q) (y start) made
+  is-array = c .to-array .ensures
+
+  array : Front (length (y start)) (made ++ drop (length (y start)) blank) made
+  array = given-back (length (y start)) made (drop (length (y start)) blank)
+      (is-array .array .count ∙ sym (passed start .word .received .count))
 
 -- what the array's decoding left of the array lent for its answer
-module _ (c : tie.After-decode) where
-  abbrev start : tie.Start
-  start = c .before .before .before .before .before .before .before .before .before .before .before .before .before .before .before .before .before
+module _ (c : tie.After-decode-lost) where
+  abbrev turned : tie.After-to-array
+  turned = c .before .before .before .before .before .before .before .before
+
+  abbrev here : tie.Start
+  here = start turned
 
   abbrev lent-answer : List ℕ
-  lent-answer = take (length (start .args .received .now)) blank
+  lent-answer = take (length (y here)) blank
 
-  size : length lent-answer ≡ length (start .args .received .now)
-  size = length-take-le _ blank (short start)
+  abbrev own : List ℕ
+  own = c .decode-lost .last .1 .1 .1 .1 .1 .1 .0
 
-  answer : Front (length (start .args .received .now)) (c .decode .last .1 .1 .1 .1 .1 .0 ++ drop (length (start .args .received .now)) blank) (c .decode .last .1 .1 .1 .1 .1 .0)
-  answer = given-back (length (start .args .received .now)) (c .decode .last .1 .1 .1 .1 .1 .0) (drop (length (start .args .received .now)) blank) (c .decode .kept .1 .1 .1 .1 .1 .0 ∙ size)
+  abbrev flags : List ℕ
+  flags = c .decode-lost .last .1 .1 .1 .1 .1 .1 .1 .0
+
+  abbrev space : List ℕ
+  space = c .decode-lost .last .1 .1 .1 .1 .1 .1 .1 .1 .0
+
+  answer : Front (length (y here)) (own ++ drop (length (y here)) blank) own
+  answer = given-back (length (y here)) own (drop (length (y here)) blank) (c .decode-lost .kept .1 .1 .1 .1 .1 .1 .0 ∙ size here)
 
   -- how it ended
-  ended : Ends (ringCode (start .args .q) (start .args .m)) (c .before .before .before .before .before .before .before .before .to-array .last .1 .1 .0) (start .args .limit) (buffers lent-answer (start .args .flags .now)) (c .decode .result) (buffers (c .decode .last .1 .1 .1 .1 .1 .0) (c .decode .last .1 .1 .1 .1 .1 .1 .0))
-      × (c .decode .last .1 .1 .1 .1 .1 .1 .1 .0 ≡ cleared (start .args .space .now))
-  ended = ended-by (passed start) (c .before .before .before .before .before .before .before .before .to-array .ensures) lent-answer (size ∙ passed start .received .count) (left (c .decode .result) (buffers (c .decode .last .1 .1 .1 .1 .1 .0) (c .decode .last .1 .1 .1 .1 .1 .1 .0)) (c .decode .last .1 .1 .1 .1 .1 .1 .1 .0))
-      (rw (ks (c .before .before .before .before .before .before .before .before .before .before) .is, xs (c .before .before .before .before .before .before .before .before .before .before) .is, array (c .before .before .before .before .before .before .before .before) .is) at (c .decode .ensures))
-
-side-requires : tie.Need-side-requires
-side-requires c κs = search needs
+  ended : LostEnds (ringCode (here .args .q) (here .args .m)) (here .args .lost .now) (made turned) (here .args .limit)
+      (buffers lent-answer (here .args .flags .now)) (c .decode-lost .result) (buffers own flags)
+      × (space ≡ cleared (here .args .space .now))
+  ended = lost-ended (passed here) (is-array turned) lent-answer (size here ∙ passed here .word .received .count)
+      (left (c .decode-lost .result) (buffers own flags) space)
+      (rw (ks (turned .before .before) .is, xs (turned .before .before) .is, array turned .is) at (c .decode-lost .ensures))
 
 lengths-requires : tie.Need-lengths-requires
-lengths-requires c κs = let p = passed (c .before .before .before .before .before) .ring in (p .size, p .order)
+lengths-requires c κs = let p = passed (c .before .before .before .before .before .before) .word .ring in (p .size, p .order)
 
 columns-requires : tie.Need-columns-requires
-columns-requires c κs = passed (c .before .before .before .before .before .before) .ring .size
-
-array-borrow-prefix-array : tie.Need-array-borrow-prefix-array
-array-borrow-prefix-array c = short (c .before .before .before .before .before .before .before)
-
-slice-aggregate-to-array : tie.Need-slice-aggregate-to-array
-slice-aggregate-to-array c = sym (length-take-le _ blank (short (c .before .before .before .before .before .before .before .before)))
+columns-requires c κs = passed (c .before .before .before .before .before .before .before) .word .ring .size
 
 to-array-requires : tie.Need-to-array-requires
-to-array-requires c κs = let p = passed (c .before .before .before .before .before .before .before .before) in (p .ring .size, p .received, length-take-le _ blank (short (c .before .before .before .before .before .before .before .before)) ∙ p .received .count)
-
-array-share-prefix-ks : tie.Need-array-share-prefix-ks
-array-share-prefix-ks c = ks (c .before .before .before) .room
-
-slice-aggregate-decode : tie.Need-slice-aggregate-decode
-slice-aggregate-decode c = lent (ks (c .before .before .before .before))
+to-array-requires c κs =
+    let s = begun (c .before) in
+    let p = passed s .word in
+    (p .ring .size, p .received, size s ∙ p .received .count)
 
 mul-xs : tie.Need-mul-xs
-mul-xs c = let start = c .before .before .before .before .before .before .before .before .before .before .before in omega (arith, sides (start .args .q) (c .before .before .before .before .before .before .side .result) (passed start .ring .size) (c .before .before .before .before .before .before .side .ensures) .3)
-
-array-share-prefix-xs : tie.Need-array-share-prefix-xs
-array-share-prefix-xs c = xs (c .before .before .before .before) .room
-
-slice-aggregate-decode-2 : tie.Need-slice-aggregate-decode-2
-slice-aggregate-decode-2 c = lent (xs (c .before .before .before .before .before))
-
-array-share-prefix-array : tie.Need-array-share-prefix-array
-array-share-prefix-array c = array (c .before .before .before) .room
-
-slice-aggregate-decode-3 : tie.Need-slice-aggregate-decode-3
-slice-aggregate-decode-3 c = lent (array (c .before .before .before .before))
-
-array-borrow-prefix-own : tie.Need-array-borrow-prefix-own
-array-borrow-prefix-own c = short (c .before .before .before .before .before .before .before .before .before .before .before .before .before)
-
-slice-aggregate-decode-4 : tie.Need-slice-aggregate-decode-4
-slice-aggregate-decode-4 c = sym (length-take-le _ blank (short (c .before .before .before .before .before .before .before .before .before .before .before .before .before .before)))
-
-decode-requires : tie.Need-decode-requires
-decode-requires c κs = search needs
-
-array-share-prefix-own : tie.Need-array-share-prefix-own
-array-share-prefix-own c = answer (c .before .before .before .before .before) .room
-
-slice-aggregate-carry-back : tie.Need-slice-aggregate-carry-back
-slice-aggregate-carry-back c = lent (answer (c .before .before .before .before .before .before))
+mul-xs c =
+    let d = c .before .before .before .before in
+    omega (arith, sides (begun d .args .q) (side d) (passed (begun d) .word .ring .size) (is-side d) .3)
 
 carry-back-requires : tie.Need-carry-back-requires
 carry-back-requires c κs =
     let d = c .before .before .before .before .before .before .before in
-    let p = passed (start d) in
-    (p .ring .size, p .answer, rw (answer d .is) (answer-ring p (c .before .before .before .before .before .before .before .before .before .before .before .before .before .before .before .to-array .ensures) (lent-answer d) (d .decode .result) (buffers (d .decode .last .1 .1 .1 .1 .1 .0) (d .decode .last .1 .1 .1 .1 .1 .1 .0)) (ended d .0)))
-
-same-length : tie.Need-same-length
-same-length c = search needs
-
-same-length-2 : tie.Need-same-length-2
-same-length-2 c = search needs
-
-same-length-3 : tie.Need-same-length-3
-same-length-3 c = search needs
+    let p = passed (here d) in (
+      p .word .ring .size,
+      p .word .answer,
+      rw (answer d .is) (lost-answer p (is-array (turned d)) (lent-answer d) (d .decode-lost .result) (buffers (own d) (flags d))
+          (ended d .0)),
+    )
 
 returns : tie.Need-returns
 returns c =
-    let d = c .before .before .before .before .before .before .before .before .before .before in
-    (ring-ends (passed (start d)) (c .before .before .before .before .before .before .before .before .before .before .before .before .before .before .before .before .before .before .to-array .ensures) (lent-answer d) (d .decode .last .1 .1 .1 .1 .1 .0) (d .decode .last .1 .1 .1 .1 .1 .1 .0) (c .before .before .carry-back .last .1 .1 .1 .0) (d .decode .result) (ended d .0) (rw (answer d .is) at (c .before .before .carry-back .ensures (d .decode .last .1 .1 .1 .1 .1 .1 .0))), ended d .1)
+    let b = c .before .before in
+    let d = b .before .before .before .before .before .before .before .before in (
+      lost-ring-ends (passed (here d)) (is-array (turned d)) (lent-answer d) (own d) (flags d) (b .carry-back .last .1 .1 .1 .0)
+          (d .decode-lost .result) (ended d .0) (rw (answer d .is) at (b .carry-back .ensures (flags d))),
+      ended d .1,
+    )
 
 pub decode-ring-spec : {M : Type 1} → statement M
 decode-ring-spec =
     tie.close
     (tie.spec
-    side-requires
+    (λ c κs. search needs)
     lengths-requires
     columns-requires
-    array-borrow-prefix-array
-    slice-aggregate-to-array
+    (λ c. short (begun c))
+    (λ c. sym (size (begun (c .before))))
     to-array-requires
-    array-share-prefix-ks
-    slice-aggregate-decode
+    (λ c. ks (c .before .before .before) .room)
+    (λ c. lent (ks (c .before .before .before .before)))
     mul-xs
-    array-share-prefix-xs
-    slice-aggregate-decode-2
-    array-share-prefix-array
-    slice-aggregate-decode-3
-    array-borrow-prefix-own
-    slice-aggregate-decode-4
-    decode-requires
-    array-share-prefix-own
-    slice-aggregate-carry-back
+    (λ c. xs (c .before .before .before .before) .room)
+    (λ c. lent (xs (c .before .before .before .before .before)))
+    (λ c. array (c .before .before .before) .room)
+    (λ c. lent (array (c .before .before .before .before)))
+    (λ c. short (start (c .before .before .before .before)))
+    (λ c. sym (size (start (c .before .before .before .before .before))))
+    (λ c κs. search needs)
+    (λ c. answer (c .before .before .before .before .before) .room)
+    (λ c. lent (answer (c .before .before .before .before .before .before)))
     carry-back-requires
-    same-length
-    same-length-2
-    same-length-3
+    (λ c. search needs)
+    (λ c. search needs)
+    (λ c. search needs)
     returns)

@@ -25,27 +25,34 @@ short : (s : tie.Start) → length (s .args .word .now) ≤ 64
 short s = omega (arith, passed s .word, bounds (s .args .q) (passed s .ring .size) .symbols)
 
 -- the message lengths and the points that are lent
-ks : (c : tie.After-columns) → Front (c .before .before .side .result) (c .before .lengths .result) (ringLengths (c .before .before .before .before .before .args .q) (c .before .before .before .before .before .args .m))
-ks c = lengths-front (c .before .before .before .before .before .args .q) (c .before .before .before .before .before .args .m) _ _ (c .before .before .side .ensures) (c .before .lengths .ensures)
+ks : (c : tie.After-columns) → Front (c .before .before .side .result) (c .before .lengths .result)
+    (ringLengths (c .before .before .before .before .before .args .q) (c .before .before .before .before .before .args .m))
+ks c = lengths-front (c .before .before .before .before .before .args .q) (c .before .before .before .before .before .args .m) _ _
+    (c .before .before .side .ensures) (c .before .lengths .ensures)
 
-xs : (c : tie.After-columns) → Front (c .before .before .side .result * c .before .before .side .result) (c .columns .result) (numbers (c .before .before .before .before .before .args .q * c .before .before .before .before .before .args .q))
+xs : (c : tie.After-columns) → Front (c .before .before .side .result * c .before .before .side .result) (c .columns .result)
+    (numbers (c .before .before .before .before .before .args .q * c .before .before .before .before .before .args .q))
 xs c = columns-front (c .before .before .before .before .before .args .q) _ _ (c .before .before .side .ensures) (c .columns .ensures)
 
 -- what the mark's encoding left in the part that it was lent, and that part in its array
-made : (c : tie.After-encode) → c .encode .last .1 .1 .1 .1 .0 ≡ encoded (ringCode (c .before .before .before .before .before .before .before .before .before .args .q) (c .before .before .before .before .before .before .before .before .before .args .m)) (c .before .before .before .before .before .before .before .before .before .args .message .now)
+made : (c : tie.After-encode) → c .encode .last .1 .1 .1 .1 .0
+    ≡ encoded (ringCode (c .before .before .before .before .before .before .before .before .before .args .q) (c .before .before .before .before .before .before .before .before .before .args .m)) (c .before .before .before .before .before .before .before .before .before .args .message .now)
 made c =
     let start = c .before .before .before .before .before .before .before .before .before in
     let p = passed start in
-    let size : length (take (length (start .args .word .now)) blank) ≡ length (start .args .word .now) = length-take-le _ blank (short start) in
+    let size : length (take (length (start .args .word .now)) blank) ≡ length (start .args .word .now) =
+    length-take-le _ blank (short start) in
     encoded-by p (take (length (start .args .word .now)) blank) (left (c .encode .result) (c .encode .last .1 .1 .1 .1 .0)) (size ∙ p .word)
     (rw (ks (c .before .before .before .before) .is, xs (c .before .before .before .before) .is) at (c .encode .ensures))
 
 array : (c : tie.After-encode)
-    → Front (length (c .before .before .before .before .before .before .before .before .before .args .word .now)) (c .encode .last .1 .1 .1 .1 .0 ++ drop (length (c .before .before .before .before .before .before .before .before .before .args .word .now)) blank) (encoded (ringCode (c .before .before .before .before .before .before .before .before .before .args .q) (c .before .before .before .before .before .before .before .before .before .args .m)) (c .before .before .before .before .before .before .before .before .before .args .message .now))
+    → Front (length (c .before .before .before .before .before .before .before .before .before .args .word .now))
+    (c .encode .last .1 .1 .1 .1 .0 ++ drop (length (c .before .before .before .before .before .before .before .before .before .args .word .now)) blank) (encoded (ringCode (c .before .before .before .before .before .before .before .before .before .args .q) (c .before .before .before .before .before .before .before .before .before .args .m)) (c .before .before .before .before .before .before .before .before .before .args .message .now))
 array c =
     let start = c .before .before .before .before .before .before .before .before .before in
     let p = passed start in
-    rw (made c) (given-back (length (start .args .word .now)) (encoded (ringCode (start .args .q) (start .args .m)) (start .args .message .now)) (drop (length (start .args .word .now)) blank) (encoded-array p .count ∙ sym (p .word)))
+    rw (made c) (given-back (length (start .args .word .now))
+    (encoded (ringCode (start .args .q) (start .args .m)) (start .args .message .now)) (drop (length (start .args .word .now)) blank) (encoded-array p .count ∙ sym (p .word)))
 
 side-requires : tie.Need-side-requires
 side-requires c κs = search needs
@@ -63,7 +70,11 @@ slice-aggregate-encode : tie.Need-slice-aggregate-encode
 slice-aggregate-encode c = lent (ks (c .before))
 
 mul-xs : tie.Need-mul-xs
-mul-xs c = let start = c .before .before .before .before .before .before in omega (arith, sides (start .args .q) (c .before .before .before .side .result) (passed start .ring .size) (c .before .before .before .side .ensures) .3)
+mul-xs c = let start = c .before .before .before .before .before .before in omega (
+  arith,
+  sides (start .args .q) (c .before .before .before .side .result) (passed start .ring .size)
+      (c .before .before .before .side .ensures) .3,
+)
 
 array-share-prefix-xs : tie.Need-array-share-prefix-xs
 array-share-prefix-xs c = xs (c .before) .room
@@ -87,7 +98,8 @@ slice-aggregate-to-ring : tie.Need-slice-aggregate-to-ring
 slice-aggregate-to-ring c = lent (array (c .before .before))
 
 to-ring-requires : tie.Need-to-ring-requires
-to-ring-requires c κs = let p = passed (c .before .before .before .before .before .before .before .before .before .before .before .before) in (p .ring .size, rw (array (c .before .before .before) .is) (encoded-array p), p .word)
+to-ring-requires c κs = let p =
+    passed (c .before .before .before .before .before .before .before .before .before .before .before .before) in (p .ring .size, rw (array (c .before .before .before) .is) (encoded-array p), p .word)
 
 same-length : tie.Need-same-length
 same-length c = search needs
@@ -95,7 +107,8 @@ same-length c = search needs
 returns : tie.Need-returns
 returns c =
     let p = passed (c .before .before .before .before .before .before .before .before .before .before .before .before .before .before .before) in
-    c .before .before .to-ring .ensures ∙ ap (ringOf (c .before .before .before .before .before .before .before .before .before .before .before .before .before .before .before .args .q)) (array (c .before .before .before .before .before .before) .is) ∙ written p
+    c .before .before .to-ring .ensures
+    ∙ ap (ringOf (c .before .before .before .before .before .before .before .before .before .before .before .before .before .before .before .args .q)) (array (c .before .before .before .before .before .before) .is) ∙ written p
 
 pub write-word-spec : {M : Type 1} → statement M
 write-word-spec =

@@ -30,7 +30,11 @@ total-requires : tie.Need-total-requires
 total-requires c κs = search needs
 
 sub-spare : tie.Need-sub-spare
-sub-spare c = omega (arith, total-most _ (c .before .before .before .before .args .lengths .now) (up-to (c .before .before .before .before)))
+sub-spare c = omega (
+  arith,
+  total-most _ (c .before .before .before .before .args .lengths .now)
+      (up-to (c .before .before .before .before)),
+)
 
 add-spare : tie.Need-add-spare
 add-spare c = search needs
@@ -42,19 +46,25 @@ largest-requires : tie.Need-largest-requires
 largest-requires c κs = search needs
 
 sub-short : tie.Need-sub-short
-sub-short c = omega (arith, largest-most _ (c .before .before .before .before .before .args .lengths .now) (up-to (c .before .before .before .before .before)))
+sub-short c = omega (
+  arith,
+  largest-most _ (c .before .before .before .before .before .args .lengths .now)
+      (up-to (c .before .before .before .before .before)),
+)
 
 returns : tie.Need-returns
 returns c d = omega (
   arith,
-  least (code (c .before .before .before .before .before .before) d) (c .before .before .before .cells .ensures) (c .before .before .total .ensures)
+  least (code (c .before .before .before .before .before .before) d) (c .before .before .before .cells .ensures)
+      (c .before .before .total .ensures)
       (c .before .largest .ensures),
 )
 
 returns-2 : tie.Need-returns-2
 returns-2 c d = omega (
   arith,
-  least (code (c .before .before .before .before .before .before) d) (c .before .before .before .cells .ensures) (c .before .before .total .ensures)
+  least (code (c .before .before .before .before .before .before) d) (c .before .before .before .cells .ensures)
+      (c .before .before .total .ensures)
       (c .before .largest .ensures),
 )
 

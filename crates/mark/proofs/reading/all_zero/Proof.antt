@@ -32,7 +32,11 @@ shared-slice-read-if1 : tie.Need-shared-slice-read-if1 Inv-loop μ-loop
 shared-slice-read-if1 c = search needs
 
 returns : tie.Need-returns Inv-loop μ-loop
-returns c = (λ e. absurd (true≢false (sym e)), λ z. absurd (c .if1 .taken (cut (c .before .before) .0 (c .before .before .before .loop .inv .1 .1 z) .0)))
+returns c = (
+  λ e. absurd (true≢false (sym e)),
+  λ z. absurd
+      (c .if1 .taken (cut (c .before .before) .0 (c .before .before .before .loop .inv .1 .1 z) .0)),
+)
 
 add-i : tie.Need-add-i Inv-loop μ-loop
 add-i c = search needs

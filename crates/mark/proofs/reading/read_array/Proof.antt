@@ -32,8 +32,18 @@ slice-aggregate-read-rows c = search needs
 
 read-rows-requires : tie.Need-read-rows-requires
 read-rows-requires c κs =
-    let p = c .before .before .before .before .before .before .before .before .before .before .pre in
-    (p .0, (p .1 .0, (p .1 .1 .0, p .1 .1 .1, rw (c .before .before .before .before .before .largest .ensures) at (c .before .before .before .all-inverses .ensures))))
+    let p = c .before .before .before .before .before .before .before .before .before .before .pre in (
+      p .0,
+      (
+        p .1 .0,
+        (
+          p .1 .1 .0,
+          p .1 .1 .1,
+          rw (c .before .before .before .before .before .largest .ensures) at
+              (c .before .before .before .all-inverses .ensures),
+        ),
+      ),
+    )
 
 same-length : tie.Need-same-length
 same-length c = search needs

@@ -21,7 +21,8 @@ slice-aggregate-store : tie.Need-slice-aggregate-store
 slice-aggregate-store c = search needs
 
 store-requires : tie.Need-store-requires
-store-requires c κs = let start = c .before .before .before .before in omega (arith, start .pre .1 .0, bounds (start .args .q) (start .pre .0 .0) .side)
+store-requires c κs = let start =
+    c .before .before .before .before in omega (arith, start .pre .1 .0, bounds (start .args .q) (start .pre .0 .0) .side)
 
 slice-aggregate-reduce : tie.Need-slice-aggregate-reduce
 slice-aggregate-reduce c = search needs
@@ -35,7 +36,8 @@ reduce-requires c κs =
       (tested q (start .pre .0 .0) .degree, start .pre .0 .1, start .pre .0 .2),
       (
         (omega (arith, start .pre .1 .0), omega (arith, start .pre .1 .0), omega (arith, start .pre .1 .0)),
-        symbols-lay q 0 (start .args .v .now) (replicate 4 0) (c .before .before .store .ensures) (omega (arith, start .pre .1 .0)) (omega (arith, start .pre .1 .0)) (start .pre .1 .1),
+        symbols-lay q 0 (start .args .v .now) (replicate 4 0) (c .before .before .store .ensures) (omega (arith, start .pre .1 .0))
+            (omega (arith, start .pre .1 .0)) (start .pre .1 .1),
       ),
     )
 
@@ -52,8 +54,16 @@ coefficients-requires c κs =
     let start = c .before .before .before .before .before .before .before .before .before .before .before in
     let q = start .args .q in
     let b = bounds q (start .pre .0 .0) in
-    let size : length (take (length (start .args .v .now)) (c .before .before .before .reduce .last .1 .1 .1 .1 .0)) ≡ length (start .args .v .now) = length-take-le _ _ (array-share-prefix-us (c .before .before)) in
-    ((tested q (start .pre .0 .0) .degree, start .pre .0 .1, start .pre .0 .2 .symbols), (omega (arith, start .pre .1 .0), omega (arith, start .pre .1 .0), omega (arith, start .pre .1 .0)))
+    let size : length (take (length (start .args .v .now)) (c .before .before .before .reduce .last .1 .1 .1 .1 .0))
+    ≡ length (start .args .v .now) = length-take-le _ _ (array-share-prefix-us (c .before .before)) in (
+      (tested q (start .pre .0 .0) .degree, start .pre .0 .1, start .pre .0 .2 .symbols),
+      (
+        omega (arith, start .pre .1 .0),
+        omega
+            (arith, start .pre .1 .0),
+        omega (arith, start .pre .1 .0),
+      ),
+    )
 
 same-length : tie.Need-same-length
 same-length c = search needs
@@ -65,7 +75,8 @@ returns c =
     let p = start .pre .1 .0 in
     let ys = start .args .ys .now in
     let v = start .args .v .now in
-    let front = reduced-front q (ring-field q (start .pre .0 .0)) (length v) ys v (replicate 4 0) (omega (arith, p)) (omega (arith, p, bounds q (start .pre .0 .0) .side)) (omega (arith, p))
+    let front = reduced-front q (ring-field q (start .pre .0 .0)) (length v) ys v (replicate 4 0) (omega (arith, p))
+    (omega (arith, p, bounds q (start .pre .0 .0) .side)) (omega (arith, p))
     (c .before .before .before .before .before .before .before .before .before .store .ensures)
     (c .before .before .before .before .before .before .reduce .ensures) in
     c .before .before .coefficients .ensures

@@ -21,7 +21,8 @@ ordinates-requires : tie.Need-ordinates-requires
 ordinates-requires c κs = search needs
 
 array-share-prefix-ys : tie.Need-array-share-prefix-ys
-array-share-prefix-ys c = let start = c .before .before .before .before .before .before in omega (arith, y-room (start .args .q) (start .pre .0) (c .before .ordinates .result) (c .before .ordinates .ensures), start .pre .1 .count)
+array-share-prefix-ys c = let start =
+    c .before .before .before .before .before .before in omega (arith, y-room (start .args .q) (start .pre .0) (c .before .ordinates .result) (c .before .ordinates .ensures), start .pre .1 .count)
 
 slice-aggregate-columns-of : tie.Need-slice-aggregate-columns-of
 slice-aggregate-columns-of c = sym (length-take-le _ _ (array-share-prefix-ys (c .before)))
@@ -33,14 +34,27 @@ columns-of-requires : tie.Need-columns-of-requires
 columns-of-requires c κs =
     let start = c .before .before .before .before .before .before .before .before in
     let q = start .args .q in
-    let size = start .pre .0 in
-    ((size, c .before .before .before .before .lend .ensures, rw (start .pre .1 .count) (c .before .before .before .ordinates .ensures)), (start .pre .1, bounds q size .symbols))
+    let size = start .pre .0 in (
+      (
+        size,
+        c .before .before .before .before .lend .ensures,
+        rw (start .pre .1 .count)
+            (c .before .before .before .ordinates .ensures),
+      ),
+      (start .pre .1, bounds q size .symbols),
+    )
 
 mul-turn : tie.Need-mul-turn
-mul-turn c = omega (arith, sides (c .before .before .before .before .before .before .before .before .before .before .args .q) (c .before .before .before .before .before .before .before .side .result) (c .before .before .before .before .before .before .before .before .before .before .pre .0) (c .before .before .before .before .before .before .before .side .ensures) .3)
+mul-turn c = omega (
+  arith,
+  sides (c .before .before .before .before .before .before .before .before .before .before .args .q)
+      (c .before .before .before .before .before .before .before .side .result)
+      (c .before .before .before .before .before .before .before .before .before .before .pre .0) (c .before .before .before .before .before .before .before .side .ensures) .3,
+)
 
 array-share-prefix-columns : tie.Need-array-share-prefix-columns
-array-share-prefix-columns c = let start = c .before .before .before .before .before .before .before .before .before .before in omega (arith, c .before .columns-of .kept .1 .1 .1 .1 .0, start .pre .1 .count, bounds (start .args .q) (start .pre .0) .symbols)
+array-share-prefix-columns c = let start =
+    c .before .before .before .before .before .before .before .before .before .before in omega (arith, c .before .columns-of .kept .1 .1 .1 .1 .0, start .pre .1 .count, bounds (start .args .q) (start .pre .0) .symbols)
 
 slice-aggregate-turn : tie.Need-slice-aggregate-turn
 slice-aggregate-turn c = sym (length-take-le _ _ (array-share-prefix-columns (c .before)))
@@ -49,7 +63,8 @@ turn-requires : tie.Need-turn-requires
 turn-requires c κs =
     let start = c .before .before .before .before .before .before .before .before .before .before .before .before in
     let q = start .args .q in
-    let s = sides q (c .before .before .before .before .before .before .before .before .before .side .result) (start .pre .0) (c .before .before .before .before .before .before .before .before .before .side .ensures) in
+    let s = sides q (c .before .before .before .before .before .before .before .before .before .side .result) (start .pre .0)
+    (c .before .before .before .before .before .before .before .before .before .side .ensures) in
     let size = length-take-le _ _ (array-share-prefix-columns (c .before .before)) in
     ((s .2, s .3, s .1), (size ∙ start .pre .1 .count ∙ sym (s .5), omega (arith, s .4, start .pre .2)))
 
@@ -62,7 +77,9 @@ returns c =
     let start = c .before .before .before .before .before .before .before .before .before .before .before .before .before .before .before in
     let q = start .args .q in
     let size = start .pre .0 in
-    array-made q size (c .before .before .before .before .before .before .before .before .before .before .before .before .side .ensures) (start .pre .1) (replicate 64 0) (bounds q size .symbols) (c .before .before .before .before .before .before .columns-of .ensures) (start .args .array .now) (start .pre .2) (c .before .before .turn .ensures)
+    array-made q size (c .before .before .before .before .before .before .before .before .before .before .before .before .side .ensures)
+    (start .pre .1) (replicate 64 0) (bounds q size .symbols) (c .before .before .before .before .before .before .columns-of .ensures)
+    (start .args .array .now) (start .pre .2) (c .before .before .turn .ensures)
 
 pub to-array-spec : {M : Type 1} → statement M
 to-array-spec =

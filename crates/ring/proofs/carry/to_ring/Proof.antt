@@ -20,7 +20,11 @@ ordinates-requires : tie.Need-ordinates-requires
 ordinates-requires c κs = search needs
 
 mul-turn : tie.Need-mul-turn
-mul-turn c = omega (arith, sides (c .before .before .before .before .before .args .q) (c .before .before .side .result) (c .before .before .before .before .before .pre .0) (c .before .before .side .ensures) .3)
+mul-turn c = omega (
+  arith,
+  sides (c .before .before .before .before .before .args .q) (c .before .before .side .result)
+      (c .before .before .before .before .before .pre .0) (c .before .before .side .ensures) .3,
+)
 
 slice-aggregate-turn : tie.Need-slice-aggregate-turn
 slice-aggregate-turn c = search needs
@@ -32,13 +36,15 @@ turn-requires c κs =
     ((s .0, s .1, s .3), (start .pre .1 .count ∙ sym (s .4), omega (arith, s .5, bounds (start .args .q) (start .pre .0) .symbols)))
 
 array-share-prefix-ys : tie.Need-array-share-prefix-ys
-array-share-prefix-ys c = let start = c .before .before .before .before .before .before .before .before .before in omega (arith, y-room (start .args .q) (start .pre .0) (c .before .before .before .before .ordinates .result) (c .before .before .before .before .ordinates .ensures), start .pre .1 .count)
+array-share-prefix-ys c = let start =
+    c .before .before .before .before .before .before .before .before .before in omega (arith, y-room (start .args .q) (start .pre .0) (c .before .before .before .before .ordinates .result) (c .before .before .before .before .ordinates .ensures), start .pre .1 .count)
 
 slice-aggregate-values-of : tie.Need-slice-aggregate-values-of
 slice-aggregate-values-of c = sym (length-take-le _ _ (array-share-prefix-ys (c .before)))
 
 array-share-prefix-columns : tie.Need-array-share-prefix-columns
-array-share-prefix-columns c = let start = c .before .before .before .before .before .before .before .before .before .before in omega (arith, c .before .before .before .turn .kept .1 .1 .1 .0, start .pre .1 .count, bounds (start .args .q) (start .pre .0) .symbols)
+array-share-prefix-columns c = let start =
+    c .before .before .before .before .before .before .before .before .before .before in omega (arith, c .before .before .before .turn .kept .1 .1 .1 .0, start .pre .1 .count, bounds (start .args .q) (start .pre .0) .symbols)
 
 slice-aggregate-values-of-2 : tie.Need-slice-aggregate-values-of-2
 slice-aggregate-values-of-2 c = sym (length-take-le _ _ (array-share-prefix-columns (c .before)))
@@ -48,9 +54,15 @@ values-of-requires c κs =
     let start = c .before .before .before .before .before .before .before .before .before .before .before .before in
     let q = start .args .q in
     let size = start .pre .0 in (
-      (size, c .before .before .before .before .before .before .before .before .lend .ensures, rw (start .pre .1 .count) (c .before .before .before .before .before .before .before .ordinates .ensures)),
       (
-        columns-ring q size (c .before .before .before .before .before .before .before .before .before .side .ensures) (start .pre .1) (replicate 64 0) (bounds q size .symbols) (c .before .before .before .before .before .turn .ensures),
+        size,
+        c .before .before .before .before .before .before .before .before .lend .ensures,
+        rw (start .pre .1 .count)
+            (c .before .before .before .before .before .before .before .ordinates .ensures),
+      ),
+      (
+        columns-ring q size (c .before .before .before .before .before .before .before .before .before .side .ensures) (start .pre .1)
+            (replicate 64 0) (bounds q size .symbols) (c .before .before .before .before .before .turn .ensures),
         omega (arith, start .pre .2),
       ),
     )
@@ -63,7 +75,9 @@ returns c =
     let start = c .before .before .before .before .before .before .before .before .before .before .before .before .before .before .before in
     let q = start .args .q in
     let size = start .pre .0 in
-    ring-made q size (c .before .before .before .before .before .before .before .before .before .before .before .before .side .ensures) (start .pre .1) (replicate 64 0) (bounds q size .symbols) (c .before .before .before .before .before .before .before .before .turn .ensures) (start .args .ring .now) (start .pre .2) (c .before .before .values-of .ensures)
+    ring-made q size (c .before .before .before .before .before .before .before .before .before .before .before .before .side .ensures)
+    (start .pre .1) (replicate 64 0) (bounds q size .symbols)
+    (c .before .before .before .before .before .before .before .before .turn .ensures) (start .args .ring .now) (start .pre .2) (c .before .before .values-of .ensures)
 
 pub to-ring-spec : {M : Type 1} → statement M
 to-ring-spec =

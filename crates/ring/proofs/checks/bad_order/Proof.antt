@@ -22,10 +22,20 @@ mul-outside-2 : tie.Need-mul-outside-2
 mul-outside-2 c = omega (arith, sides (c .before .args .q) (c .side .result) (c .before .pre) (c .side .ensures) .3)
 
 mul-outside-3 : tie.Need-mul-outside-3
-mul-outside-3 c = omega (arith, sides (c .before .args .q) (c .side .result) (c .before .pre) (c .side .ensures) .5, bounds (c .before .args .q) (c .before .pre) .symbols)
+mul-outside-3 c = omega (
+  arith,
+  sides (c .before .args .q) (c .side .result) (c .before .pre) (c .side .ensures) .5,
+  bounds
+      (c .before .args .q) (c .before .pre) .symbols,
+)
 
 sub-outside-2 : tie.Need-sub-outside-2
-sub-outside-2 c = omega (arith, sides (c .before .args .q) (c .side .result) (c .before .pre) (c .side .ensures) .5, bounds (c .before .args .q) (c .before .pre) .some-symbols)
+sub-outside-2 c = omega (
+  arith,
+  sides (c .before .args .q) (c .side .result) (c .before .pre) (c .side .ensures) .5,
+  bounds
+      (c .before .args .q) (c .before .pre) .some-symbols,
+)
 
 outside-requires : tie.Need-outside-requires
 outside-requires c κs = search needs

@@ -18,10 +18,13 @@ use Rattle.ring.proofs.checks.buffers_refusal.Tie as tie
 
 -- 10 and 11 do not apply
 passed : (c : tie.Else1) → Passed (c .before .before .before .args .q) (c .before .before .before .args .m)
-passed c = ring-passed (c .before .before .before .args .q) (c .before .before .before .args .m) [] (sym (c .if1 .left) ∙ c .before .ring-refusal .ensures) .0
+passed c = ring-passed (c .before .before .before .args .q) (c .before .before .before .args .m) []
+    (sym (c .if1 .left) ∙ c .before .ring-refusal .ensures) .0
 
-onward : (c : tie.Else1) (ds : List Check) → first (ringChecks (c .before .before .before .args .q) (c .before .before .before .args .m) ++ ds) ≡ first ds
-onward c ds = passed-on (ringChecks (c .before .before .before .args .q) (c .before .before .before .args .m)) ds tt (c .before .ring-refusal .ensures) (c .if1 .left)
+onward : (c : tie.Else1) (ds : List Check)
+    → first (ringChecks (c .before .before .before .args .q) (c .before .before .before .args .m) ++ ds) ≡ first ds
+onward c ds = passed-on (ringChecks (c .before .before .before .args .q) (c .before .before .before .args .m)) ds tt
+    (c .before .ring-refusal .ensures) (c .if1 .left)
 
 -- where 5 does not apply either, 7 is left
 module _ (c : tie.Else2) where
@@ -29,7 +32,8 @@ module _ (c : tie.Else2) where
   start = c .before .before .before .before .before .before
 
   seventh : (f w : List ℕ) → length f ≡ start .args .message → length w ≡ start .args .word
-      → first (ringChecks (start .args .q) (start .args .m) ++ bufferChecks (start .args .q) (start .args .m) f w (start .args .symbols .now))
+      → first (ringChecks (start .args .q) (start .args .m) ++ bufferChecks (start .args .q) (start .args .m) f w
+      (start .args .symbols .now))
       ≡ first ((7 when someOutsideField (start .args .q) (start .args .symbols .now)) ∷ [])
   seventh f w p r = onward (c .before .before .before) _ ∙ miss _ _ _ (cc (c .if2 .left))
 
@@ -46,10 +50,20 @@ total-requires : tie.Need-total-requires
 total-requires c κs = (passed (c .before) .size, passed (c .before) .order)
 
 mul-if2 : tie.Need-mul-if2
-mul-if2 c = omega (arith, sides (c .before .before .before .before .before .args .q) (c .before .side .result) (passed (c .before .before) .size) (c .before .side .ensures) .3)
+mul-if2 c = omega (
+  arith,
+  sides (c .before .before .before .before .before .args .q) (c .before .side .result)
+      (passed (c .before .before) .size) (c .before .side .ensures) .3,
+)
 
 mul-if2-2 : tie.Need-mul-if2-2
-mul-if2-2 c = omega (arith, sides (c .before .before .before .before .before .args .q) (c .before .side .result) (passed (c .before .before) .size) (c .before .side .ensures) .5, bounds (c .before .before .before .before .before .args .q) (passed (c .before .before) .size) .symbols)
+mul-if2-2 c = omega (
+  arith,
+  sides (c .before .before .before .before .before .args .q) (c .before .side .result)
+      (passed (c .before .before) .size) (c .before .side .ensures) .5,
+  bounds (c .before .before .before .before .before .args .q)
+      (passed (c .before .before) .size) .symbols,
+)
 
 returns-2 : tie.Need-returns-2
 returns-2 c f w p r = sym (onward (c .before .before .before) _ ∙ hit _ _ _ (cc (c .if2 .taken)))

@@ -18,11 +18,19 @@ bad-order-requires c κs = sym (c .before .bad-size .ensures) ∙ c .if1 .left
 
 returns-2 : tie.Need-returns-2
 unfolding first
-returns-2 c = simp (sym (c .before .before .before .bad-size .ensures) ∙ c .before .before .if1 .left, sym (c .before .bad-order .ensures) ∙ c .if2 .taken)
+returns-2 c = simp (
+  sym (c .before .before .before .bad-size .ensures) ∙ c .before .before .if1 .left,
+  sym (c .before .bad-order .ensures)
+      ∙ c .if2 .taken,
+)
 
 returns-3 : tie.Need-returns-3
 unfolding first
-returns-3 c = simp (sym (c .before .before .before .bad-size .ensures) ∙ c .before .before .if1 .left, sym (c .before .bad-order .ensures) ∙ c .if2 .left)
+returns-3 c = simp (
+  sym (c .before .before .before .bad-size .ensures) ∙ c .before .before .if1 .left,
+  sym (c .before .bad-order .ensures)
+      ∙ c .if2 .left,
+)
 
 pub ring-refusal-spec : {M : Type 1} → statement M
 ring-refusal-spec =

@@ -1,0 +1,39 @@
+-- What a decoding with lost columns promises: 02, 2026-03, 'Lost sectors'. L is the list of lost columns.
+--
+--   LostCorrects c L y τ w left    'corrected' with w wrong columns among the remaining ones leaves left
+--   LostEnds c L y τ lent e left   the decoding of y, not refused, ends as e and turns the buffers lent into left
+--   DecodesLost L g l              the decoding of g leaves l
+use mathlib.Core.Path.{_≡_}
+use mathlib.Core.List.{List}
+use Prim.Native.Nat.{ℕ}
+use Rattle.refusal.specs.Keeping.{Keeps}
+use Rattle.mark.specs.Code.{Code, encoded}
+use Rattle.mark.specs.Lost.{core, coreOf, flagsLost}
+use Rattle.mark.specs.Checks.{lostChecks}
+use Rattle.ending.specs.Endings.{Buffers, Corrects, Ends}
+use Rattle.ending.specs.declared.Ending.{Ending}
+use Rattle.ending.specs.declared.Ending.the-variants.{Refused, Corrected, Nothing, Several, Hollow}
+use Rattle.joint.specs.Promises.{Given, Left, left, cleared}
+
+-- 'On "corrected" the lost columns are filled from the rows found, their flags are 2, and the detail counts wrong columns among
+-- the rest': the rows found are those of the message m of the remaining columns
+pub record LostCorrects (c : Code) (L y : List ℕ) (τ w : ℕ) (left : Buffers) : Type 0 where
+  pub found : Buffers
+  pub corrects : Corrects (core c L) (coreOf c L y) τ w found
+  pub array : left .array ≡ encoded c (corrects .m)
+  pub flags : left .flags ≡ flagsLost c L y (left .array)
+
+-- 'The answer is that of the array made of the remaining columns, in their order, with their points': the table of 01 over these
+abbrev pub LostEnds : Code → List ℕ → List ℕ → ℕ → Buffers → Ending → Buffers → Type 0
+LostEnds c L y τ lent (Corrected w) left = LostCorrects c L y τ w left
+LostEnds c L y τ lent (Refused k) left = Ends (core c L) (coreOf c L y) τ lent (Refused k) left
+LostEnds c L y τ lent Nothing left = Ends (core c L) (coreOf c L y) τ lent Nothing left
+LostEnds c L y τ lent (Several t) left = Ends (core c L) (coreOf c L y) τ lent (Several t) left
+LostEnds c L y τ lent (Hollow t) left = Ends (core c L) (coreOf c L y) τ lent (Hollow t) left
+
+-- 'a refusal touches none'
+abbrev pub DecodesLost : List ℕ → Given → Left → Type 0
+DecodesLost L g =
+    Keeps (lostChecks (g .code) (g .limit) L (g .received) (g .lent .array) (g .lent .flags) (g .space))
+    (λ k. left (Refused k) (g .lent) (g .space))
+    (λ l. LostEnds (g .code) L (g .received) (g .limit) (g .lent) (l .ending) (l .buffers) × (l .space ≡ cleared (g .space)))

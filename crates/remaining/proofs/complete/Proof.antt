@@ -1,0 +1,127 @@
+-- `remaining::complete` has the lost and the wrong columns filled in, and then releases the answer and its flags.
+-- Assumes nothing.
+use mathlib.Core.Path.{_≡_, refl, sym, ap, _∙_}
+use mathlib.Core.List.{List}
+use Prim.Native.Nat.{ℕ, _≤_}
+use native.Mathlib.Omega.{arith}
+use lib.ListN.{length, take, replicate}
+use lib.Seq.{length-take-le}
+use Rattle.patch.specs.Parts.{lay}
+use Rattle.patch.proofs.Parts.{laid-front, length-lay}
+use Rattle.mark.specs.Code.{Code, codeOf}
+use Rattle.mark.specs.Lost.{lostFlags}
+use Rattle.mark.proofs.Lost.{lost-length}
+use Rattle.ending.proofs.Model.{filled}
+use Rattle.conditions.proofs.Places.{copied}
+use Rattle.finish.proofs.Filled.{rows-length}
+use Rattle.remaining.specs.Working.{merged, toFill}
+use Rattle.remaining.proofs.Fronts.{merged-count, fill-count}
+use borrow.Author.Needs.{needs}
+use Rattle.remaining.proofs.complete.Statement.{statement}
+use Rattle.remaining.proofs.complete.Tie as tie
+
+module _ (c : tie.After-merge-flags) where
+  abbrev start : tie.Start
+  start = c .before .before .before .before .before .before .before .before
+
+  abbrev code : Code
+  code = codeOf (start .args .degree) (start .args .points .now) (start .args .lengths .now)
+
+  abbrev n : ℕ
+  n = length (start .args .points .now)
+
+  abbrev y : List ℕ
+  y = start .args .received .now
+
+  abbrev marks : List ℕ
+  marks = merged (lostFlags n (start .args .lost .now)) (start .args .wrong .now)
+
+  few : n ≤ 96
+  few = start .pre .0 .0 .most-columns
+
+  front : take n (c .merge-flags .result) ≡ marks
+  front = c .merge-flags .ensures .1
+
+  marks-size : length marks ≡ n
+  marks-size = merged-count (lostFlags n (start .args .lost .now)) (start .args .wrong .now) ∙ lost-length n (start .args .lost .now)
+
+  size : length (take n (c .merge-flags .result)) ≡ n
+  size = ap length front ∙ marks-size
+
+  cells : length y ≤ 384
+  cells = omega (arith, start .pre .1 .0 .0 .count, start .pre .0 .0 .cells)
+
+  answer-size : length (filled code y (toFill marks)) ≡ length y
+  answer-size =
+      rows-length (start .args .degree) (toFill marks) (start .args .points .now) (fill-count marks ∙ marks-size)
+      (start .args .lengths .now) y (start .pre .1 .0 .0 .count)
+      ∙ sym (start .pre .1 .0 .0 .count)
+
+module _ (c : tie.After-fill-flagged) where
+  abbrev merged-at : tie.After-merge-flags
+  merged-at = c .before .before .before
+
+  abbrev own : List ℕ
+  own = c .fill-flagged .last .1 .1 .1 .1 .1 .0
+
+  filled-own : own ≡ lay 0 (filled (code merged-at) (y merged-at) (toFill (marks merged-at))) (replicate 384 0)
+  filled-own = rw (front merged-at) at (c .fill-flagged .ensures)
+
+  long : length own ≡ 384
+  long = ap length filled-own ∙ length-lay 0 _ (replicate 384 0)
+
+  answer : take (length (y merged-at)) own ≡ filled (code merged-at) (y merged-at) (toFill (marks merged-at))
+  answer = laid-front (filled (code merged-at) (y merged-at) (toFill (marks merged-at))) (replicate 384 0) filled-own
+      (answer-size merged-at) (omega (arith, cells merged-at))
+
+  answer-long : length (take (length (y merged-at)) own) ≡ length (y merged-at)
+  answer-long = length-take-le _ own (omega (arith, long, cells merged-at))
+
+merge-flags-requires : tie.Need-merge-flags-requires
+merge-flags-requires c κs =
+    let s = c .before .before .before .before .before .before .before in
+    (s .pre .0 .0 .most-columns, s .pre .1 .0 .1, s .pre .1 .1 .0 .0)
+
+fill-flagged-requires : tie.Need-fill-flagged-requires
+fill-flagged-requires c κs =
+    let d = c .before .before in
+    let p = start d .pre in
+    rw (front d) (p .0, ((p .1 .0 .0, refl), (marks-size d, p .1 .1 .0 .1)))
+
+returns : tie.Need-returns
+returns c =
+    let f = c .before .before .before .before .before .before .before .before .before .before .before in
+    let d = merged-at f in (
+      copied _ _ (answer-long f ∙ sym (start d .pre .1 .1 .1 .0))
+          (c .before .before .before .before .before .before .before .copy .ensures .1) ∙ answer f,
+      copied _ _ (size d ∙ sym (start d .pre .1 .1 .1 .1)) (c .before .before .copy2 .ensures .1) ∙ front d,
+    )
+
+pub complete-spec : {M : Type 1} → statement M
+complete-spec =
+    tie.close
+    (tie.spec
+    merge-flags-requires
+    (λ c. omega (arith, c .merge-flags .ensures .0, few c))
+    (λ c. sym (size (c .before)))
+    (λ c. search needs)
+    fill-flagged-requires
+    (λ c. omega (arith, long (c .before), cells (merged-at (c .before))))
+    (λ c. sym (answer-long (c .before .before)))
+    (λ c κs. omega (arith, answer-long (c .before .before .before), start (merged-at (c .before .before .before)) .pre .1 .1 .1 .0))
+    (λ c. omega (
+      arith,
+      merged-at (c .before .before .before .before .before .before) .merge-flags .ensures .0,
+      few
+          (merged-at (c .before .before .before .before .before .before)),
+    ))
+    (λ c. sym (size (merged-at (c .before .before .before .before .before .before .before))))
+    (λ c κs. omega (
+      arith,
+      size (merged-at (c .before .before .before .before .before .before .before .before)),
+      start
+          (merged-at (c .before .before .before .before .before .before .before .before)) .pre .1 .1 .1 .1,
+    ))
+    (λ c. search needs)
+    (λ c. search needs)
+    returns)
