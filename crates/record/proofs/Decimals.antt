@@ -74,7 +74,8 @@ short-by (suc f) n k h = go k h (λ j less. short-by f (n / 10) j less) (decLt n
     go k h ih (yes l) = short-one k n (suc f) l
     go zero h ih (no l) = absurd (let z : n < 10 ^ 1 = h in omega arith)
     go (suc j) h ih (no l) =
-        let less : n / 10 < 10 ^ suc j = div-lt-iff-lt-mul {k = 10} {x = n} {y = 10 ^ suc j} (omega arith) .1 (rw (pow-suc 10 (suc j)) at h) in
+        let less : n / 10 < 10 ^ suc j =
+        div-lt-iff-lt-mul {k = 10} {x = n} {y = 10 ^ suc j} (omega arith) .1 (rw (pow-suc 10 (suc j)) at h) in
         rw (more-digits f n (omega arith)) (rw length-append (omega (arith, ih j less)))
 
 pub decimal-short : (k n : ℕ) → n < 10 ^ suc k → length (decimal n) ≤ suc k

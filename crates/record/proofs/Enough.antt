@@ -16,7 +16,8 @@ use borrow.Author.Tests.{le-leb, le-ltb}
 use Rattle.refusal.specs.Refusal.{Check, _when_, first, badDegree, outside}
 use Rattle.refusal.proofs.Laws.{hit}
 use Rattle.joint.specs.Promises.{Given}
-use Rattle.record.specs.Records.{begins, noMark, outOfRange, degreeIn, rowsIn, columnsIn, lengthsIn, limitIn, pointsIn, symbolsIn, sizeIn, stopOf, wanted}
+use Rattle.record.specs.Records.{begins, noMark, outOfRange, degreeIn, rowsIn, columnsIn, sizeIn, stopOf, wanted}
+use Rattle.record.specs.Records.{lengthsIn, limitIn, pointsIn, symbolsIn}
 use Rattle.record.specs.Promises.{recordIn, fresh, AnswersBy, Answers}
 use Rattle.record.specs.declared.Reply.{Reply}
 use Rattle.record.proofs.Heads.{wants-mark, wants-head, wants-all}
@@ -43,7 +44,8 @@ last-asked m c d false false s s′ h = ap (λ (x : Bool). first (checks m c d f
 
 stop-is : (b : List ℕ)
     → stopOf b
-    ≡ first (checks (noMark b) (ltb (length b) 5) (badDegree (degreeIn b)) (outside 1 4 (rowsIn b)) (outside 1 96 (columnsIn b)) (ltb (length b) (sizeIn b)))
+    ≡ first (checks (noMark b) (ltb (length b) 5) (badDegree (degreeIn b)) (outside 1 4 (rowsIn b)) (outside 1 96 (columnsIn b))
+    (ltb (length b) (sizeIn b)))
 unfolding stopOf outOfRange checks
 stop-is b = refl
 
@@ -60,13 +62,15 @@ module _ (b rest : List ℕ) (five : 5 ≤ length b) where
   same-stop whole =
       let more : length (b ++ rest) ≡ length b + length rest = length-append b rest in
       let m = same-mark b rest (omega arith) in
-      let c : ltb (length (b ++ rest)) 5 ≡ ltb (length b) 5 = le-ltb (length (b ++ rest)) 5 (omega arith) ∙ sym (le-ltb (length b) 5 five) in
+      let c : ltb (length (b ++ rest)) 5 ≡ ltb (length b) 5 =
+      le-ltb (length (b ++ rest)) 5 (omega arith) ∙ sym (le-ltb (length b) 5 five) in
       let d = ap badDegree (at 2 (omega arith)) in
       let o₁ = ap (outside 1 4) (at 3 (omega arith)) in
       let o₂ = ap (outside 1 96) (at 4 (omega arith)) in
       let s = last-asked (noMark b) (ltb (length b) 5) (badDegree (degreeIn b)) (outside 1 4 (rowsIn b)) (outside 1 96 (columnsIn b))
       (ltb (length (b ++ rest)) (sizeIn (b ++ rest))) (ltb (length b) (sizeIn b))
-      (λ o. le-ltb (length (b ++ rest)) (sizeIn (b ++ rest)) (omega (arith, same-size, whole o)) ∙ sym (le-ltb (length b) (sizeIn b) (whole o))) in
+      (λ o. le-ltb (length (b ++ rest)) (sizeIn (b ++ rest)) (omega (arith, same-size, whole o))
+      ∙ sym (le-ltb (length b) (sizeIn b) (whole o))) in
       let e = stop-is (b ++ rest) in
       let e′ = stop-is b in
       cc
@@ -110,7 +114,7 @@ module _ (b : List ℕ) (h : wanted b ≤ length b) where
         go (no l) = omega arith
 
     complete : outOfRange b ≡ false → sizeIn b ≤ length b
-    complete o = omega (arith, wants-all b two m five o)
+    complete o = omega (arith, wants-all b m five o)
 
   stop-twelve : (l : List ℕ) → noMark l ≡ true → stopOf l ≡ 12
   unfolding stopOf
@@ -138,8 +142,8 @@ enough number (x ∷ b) rest lent r left h =
 pub rest-of : (b rest : List ℕ) → stopOf b ≡ 0 → length b ≡ wanted b → drop (sizeIn (b ++ rest)) (b ++ rest) ≡ rest
 rest-of b rest z e =
     let w = whole-of b z in
-    let m = no-mark in
-    let size : sizeIn (b ++ rest) ≡ length b = same-size b rest (w .five) ∙ sym (wants-all b (omega (arith, w .five)) m (w .five) (w .inside)) ∙ sym e in
+    let size : sizeIn (b ++ rest) ≡ length b =
+    same-size b rest (w .five) ∙ sym (wants-all b no-mark (w .five) (w .inside)) ∙ sym e in
     ap (λ (k : ℕ). drop k (b ++ rest)) size ∙ drop-append-seam b rest
   where
     no-mark : noMark b ≡ false

@@ -19,7 +19,7 @@ use Rattle.patch.proofs.Parts.{length-lay, lay-none, lay-append}
 use Rattle.ending.specs.declared.Ending.{Ending}
 use Rattle.ending.specs.declared.Ending.the-variants.{Nothing}
 use Rattle.record.specs.Lines.{ascii, decimal, word, detail, wrongFrom, wrongColumns, commas, joined, lineOf}
-use Rattle.record.specs.Working.{Puts, followed, fieldsOf}
+use Rattle.record.specs.Working.{Puts, PutsWithin, Room, followed, fieldsOf}
 use Rattle.record.proofs.Decimals.{decimal-short}
 use Rattle.record.proofs.Layouts.{puts-then}
 
@@ -87,20 +87,20 @@ module _ (out₀ : List ℕ) (at : ℕ) (fs out : List ℕ) (end gap i : ℕ) (w
     wrong-put room {left} {r} p =
         record {
           within = omega arith;
-          size = ap length (p .0) ∙ length-lay end (gap ∷ decimal i) out ∙ w .size;
+          size = ap length (p .laid) ∙ length-lay end (gap ∷ decimal i) out ∙ w .size;
           written =
-              rw (p .0, p .1)
+              rw (p .laid, p .behind)
               (lay-append end (gap ∷ decimal i) (followed 44 (rest fs (i + 1))) out
               (omega (arith, both, w .size, w .ends, length-append (gap ∷ decimal i) (followed 44 (rest fs (i + 1)))))
               ∙ ap (λ (v : List ℕ). lay end v out) (sym text) ∙ w .written);
-          ends = omega (arith, p .1, both, w .ends);
+          ends = omega (arith, both, w .ends);
         }
 
   pub wrong-end : length fs ≤ i → Puts out₀ at (followed 32 (wrongFrom 0 fs)) out end
   unfolding wrongFrom followed
   wrong-end h =
       let none : drop i fs ≡ [] = drop-of-length-le fs h in
-      (sym (lay-none end out) ∙ rw none at (w .written), omega (arith, rw none at (w .ends)))
+      record { laid = sym (lay-none end out) ∙ rw none at (w .written); behind = omega (arith, rw none at (w .ends)) }
 
 followed-short-by : (s i : ℕ) (fs : List ℕ) → i + length fs ≤ 96 → length (followed s (wrongFrom i fs)) ≤ 3 * length fs
 unfolding wrongFrom
@@ -121,13 +121,13 @@ module _ (out : List ℕ) (at : ℕ) where
   pub no-columns : (cs : List ℕ) {mid left : List ℕ} {e r : ℕ} → Puts out at (followed 32 cs) mid e → e ≡ at
       → Puts mid at (32 ∷ 45 ∷ []) left r → Puts out at (32 ∷ joined cs) left r
   unfolding followed joined
-  no-columns [] {mid} {left} p z q = rw (p .0 ∙ lay-none at out) at q
-  no-columns (c ∷ cs) p z q = absurd (omega (arith, p .1))
+  no-columns [] {mid} {left} p z q = rw (p .laid ∙ lay-none at out) at q
+  no-columns (c ∷ cs) p z q = absurd (omega arith)
 
   pub some-columns : (cs : List ℕ) {left : List ℕ} {e : ℕ} → Puts out at (followed 32 cs) left e → (e ≡ at → ⊥)
       → Puts out at (32 ∷ joined cs) left e
   unfolding followed joined
-  some-columns [] p z = absurd (z (p .1 ∙ omega arith))
+  some-columns [] p z = absurd (z (omega arith))
   some-columns (c ∷ cs) {left} {e} p z = subst (λ (v : List ℕ). Puts out at (32 ∷ decimal c ++ v) left e) (commas-followed cs) p
 
 pub fields-parts : (e : Ending) (fs : List ℕ)
@@ -136,26 +136,26 @@ unfolding fieldsOf
 fields-parts e fs = append-assoc (ascii " " ++ word e ++ ascii " " ++ detail e) (ascii " ") (joined (wrongColumns e fs))
 
 -- the fields of an ending e, which is x: the first two and the fourth
-module _ (out : List ℕ) (at : ℕ) (fs : List ℕ) (room : at + 302 ≤ length out) where
-  pub ended : (x : Ending) {e : Ending} → e ≡ x → {mid left : List ℕ} {end r : ℕ}
-      → Puts out at (ascii " " ++ word x ++ ascii " " ++ detail x) mid end
-      → Puts mid end (32 ∷ joined (wrongColumns x fs)) left r → r ≤ at + 302 → Puts out at (fieldsOf e fs) left r × (r ≤ at + 302)
-  ended x is {mid} {left} {end} {r} p q most =
+module _ {out : List ℕ} {at : ℕ} {fs : List ℕ} (h : Room 302 fs out at) where
+  pub ended : (x : Ending) {e : Ending} → e ≡ x → {m : ℕ} {mid left : List ℕ} {end r : ℕ}
+      → PutsWithin m out at (ascii " " ++ word x ++ ascii " " ++ detail x) mid end → m ≤ 14
+      → PutsWithin 288 mid end (32 ∷ joined (wrongColumns x fs)) left r → PutsWithin 302 out at (fieldsOf e fs) left r
+  ended x is p few q =
       let v : List ℕ = ascii " " ++ word x ++ ascii " " ++ detail x in
       let u : List ℕ = 32 ∷ joined (wrongColumns x fs) in
-      let h = puts-then out at v u (omega (arith, length-append v u, p .1, q .1)) p q in
-      (rw (is, fields-parts x fs) h, most)
+      let both = puts-then out at v u (omega (arith, length-append v u)) (p .puts) (q .puts) in
+      record { puts = rw (is, fields-parts x fs) both; most = omega arith }
 
-  pub ended-plain : (x : Ending) {e : Ending} → e ≡ x → wrongColumns x fs ≡ [] → {mid left : List ℕ} {end r : ℕ}
-      → Puts out at (ascii " " ++ word x ++ ascii " " ++ detail x) mid end → Puts mid end (32 ∷ 45 ∷ []) left r → r ≤ at + 302
-      → Puts out at (fieldsOf e fs) left r × (r ≤ at + 302)
+  pub ended-plain : (x : Ending) {e : Ending} → e ≡ x → wrongColumns x fs ≡ [] → {m : ℕ} {mid left : List ℕ} {end r : ℕ}
+      → PutsWithin m out at (ascii " " ++ word x ++ ascii " " ++ detail x) mid end → m ≤ 14
+      → Puts mid end (32 ∷ 45 ∷ []) left r → PutsWithin 302 out at (fieldsOf e fs) left r
   unfolding joined
-  ended-plain x is z {mid} {left} {end} {r} p q most = ended x is p (rw z q) most
+  ended-plain x is z p few q = ended x is p few (record { puts = rw z q; most = omega arith })
 
   pub ended-none : {e : Ending} → e ≡ Nothing → {left : List ℕ} {r : ℕ} → Puts out at (ascii " none - -") left r
-      → Puts out at (fieldsOf e fs) left r × (r ≤ at + 302)
+      → PutsWithin 302 out at (fieldsOf e fs) left r
   unfolding fieldsOf joined
-  ended-none is p = (rw is p, omega (arith, p .1))
+  ended-none is p = record { puts = rw is p; most = omega arith }
 
 pub line-parts : (number : ℕ) (e : Ending) (fs : List ℕ) → lineOf number e fs ≡ decimal number ++ fieldsOf e fs ++ ascii "\n"
 unfolding lineOf fieldsOf

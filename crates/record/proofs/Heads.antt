@@ -3,13 +3,14 @@
 --   few-bytes               fewer than two bytes are no wrong mark
 --   first-byte, second-byte    where the first byte is not the mark's, and where it is
 --   rows-out, rows-in       the same for the count of rows
---   in-range, rows-most, columns-most, cells-most    what a head in range says
+--   in-range, rows-most, columns-most    what a head in range says
+--   Sizes b r n             r rows and n columns of a head in range; sizes-of, so it is
 --   wants-mark, wants-no-more, wants-head, wants-head-alone, wants-all    how many bytes are wanted, case by case
 -- Assumes nothing.
-use mathlib.Core.Path.{_≡_}
+use mathlib.Core.Path.{_≡_, ap₂}
 use mathlib.Core.Bool.{true, false, not, and-true}
 use mathlib.Core.List.{List, [], _∷_}
-use Prim.Native.Nat.{ℕ, _-_, _*_, _≤_, _<_}
+use Prim.Native.Nat.{ℕ, _+_, _*_, _≤_, _<_}
 use native.Mathlib.Nat.{mul-le-mul}
 use native.Mathlib.Omega.{arith}
 use lib.Dec.{eqb}
@@ -54,8 +55,18 @@ module _ (b : List ℕ) (h : outOfRange b ≡ false) where
   pub columns-most : (1 ≤ columnsIn b) × (columnsIn b ≤ 96)
   columns-most = within 1 96 (columnsIn b) (in-range .1)
 
-  pub cells-most : rowsIn b * columnsIn b ≤ 384
-  cells-most = mul-le-mul (rows-most .1) (columns-most .1)
+pub record Sizes (b : List ℕ) (r n : ℕ) : Type 0 where
+  pub rows : r ≤ 4
+  pub columns : n ≤ 96
+  pub cells : r * n ≤ 384
+  pub total : 6 + r + n + r * n ≡ sizeIn b
+
+pub sizes-of : {b : List ℕ} {r n : ℕ} → outOfRange b ≡ false → r ≡ rowsIn b → n ≡ columnsIn b → Sizes b r n
+unfolding sizeIn
+sizes-of {b} {r} {n} h p q =
+    let rows : r ≤ 4 = omega (arith, rows-most b h .1) in
+    let columns : n ≤ 96 = omega (arith, columns-most b h .1) in
+    record { rows = rows; columns = columns; cells = mul-le-mul rows columns; total = ap₂ (λ (r n : ℕ). 6 + r + n + r * n) p q }
 
 module _ (b : List ℕ) where
   pub wants-mark : length b < 2 → wanted b ≡ 2
@@ -70,10 +81,10 @@ module _ (b : List ℕ) where
   unfolding wanted
   wants-head h m l = rw (le-ltb (length b) 2 h, m, lt-ltb (length b) 5 l)
 
-  pub wants-head-alone : 2 ≤ length b → noMark b ≡ false → 5 ≤ length b → outOfRange b ≡ true → wanted b ≡ 5
+  pub wants-head-alone : noMark b ≡ false → 5 ≤ length b → outOfRange b ≡ true → wanted b ≡ 5
   unfolding wanted
-  wants-head-alone h m l o = rw (le-ltb (length b) 2 h, m, le-ltb (length b) 5 l, o)
+  wants-head-alone m l o = rw (le-ltb (length b) 2 (omega arith), m, le-ltb (length b) 5 l, o)
 
-  pub wants-all : 2 ≤ length b → noMark b ≡ false → 5 ≤ length b → outOfRange b ≡ false → wanted b ≡ sizeIn b
+  pub wants-all : noMark b ≡ false → 5 ≤ length b → outOfRange b ≡ false → wanted b ≡ sizeIn b
   unfolding wanted
-  wants-all h m l o = rw (le-ltb (length b) 2 h, m, le-ltb (length b) 5 l, o)
+  wants-all m l o = rw (le-ltb (length b) 2 (omega arith), m, le-ltb (length b) 5 l, o)

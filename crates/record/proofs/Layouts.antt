@@ -14,5 +14,5 @@ use Rattle.record.specs.Working.{Puts}
 pub puts-then : (lent : List ℕ) (at : ℕ) (v w : List ℕ) {mid left : List ℕ} {e r : ℕ} → at + length (v ++ w) ≤ length lent
     → Puts lent at v mid e → Puts mid e w left r → Puts lent at (v ++ w) left r
 puts-then lent at v w {mid} {left} {e} {r} fits p q =
-    let h : left ≡ lay (at + length v) w (lay at v lent) = q .0 ∙ rw (p .0, p .1) in
-    (h ∙ lay-append at v w lent fits, omega (arith, p .1, q .1, length-append v w))
+    let h : left ≡ lay (at + length v) w (lay at v lent) = q .laid ∙ rw (p .laid, p .behind) in
+    record { laid = h ∙ lay-append at v w lent fits; behind = omega (arith, length-append v w) }

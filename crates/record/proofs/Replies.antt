@@ -24,7 +24,7 @@ module _ (number : ℕ) (lent : List ℕ) where
   stop-by : (n k : ℕ) (g : Given) {left : List ℕ} {r : ℕ} → k ≡ n → (k ≡ 0 → ⊥) → Puts lent 0 (refusedLine number k) left r
       → AnswersBy n number g lent (Last r) left
   stop-by zero k g e z p = absurd (z e)
-  stop-by (suc n) k g {left} {r} e z p = (ap Last (p .1 ∙ zero-add _ ∙ rw e), p .0 ∙ rw e)
+  stop-by (suc n) k g {left} {r} e z p = (ap Last (p .behind ∙ zero-add _ ∙ rw e), p .laid ∙ rw e)
 
   pub answers-stop : (b : List ℕ) (k : ℕ) {left : List ℕ} {r : ℕ} → (length b ≡ 0 → ⊥) → k ≡ stopOf b → (k ≡ 0 → ⊥)
       → Puts lent 0 (refusedLine number k) left r → Answers number b lent (Last r) left
@@ -33,7 +33,7 @@ module _ (number : ℕ) (lent : List ℕ) where
 
   next-by : (n : ℕ) (g : Given) (line : List ℕ) {left : List ℕ} {r : ℕ} → n ≡ 0 → LineOf number g line → Puts lent 0 line left r
       → AnswersBy n number g lent (Next r) left
-  next-by zero g line e l p = (line, l, ap Next (p .1 ∙ zero-add _), p .0)
+  next-by zero g line e l p = (line, l, ap Next (p .behind ∙ zero-add _), p .laid)
   next-by (suc n) g line e l p = absurd (omega arith)
 
   pub answers-next : (b line : List ℕ) {left : List ℕ} {r : ℕ} → (length b ≡ 0 → ⊥) → stopOf b ≡ 0

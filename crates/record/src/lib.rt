@@ -2,14 +2,10 @@
 mod parts;
 mod text;
 
-ghost use mathlib.Core.Path.{_≡_};
-ghost use mathlib.Core.List.{List};
-ghost use Prim.Native.Nat.{ℕ, _≤_};
-ghost use lib.ListN.{length};
 ghost use Rattle.io.specs.Counts.{Counts};
-ghost use Rattle.record.specs.Records.{stopOf, wanted};
-ghost use Rattle.record.specs.Promises.{Answers, LineOf, recordIn};
-ghost use Rattle.record.specs.Working.{Puts, roomOf};
+ghost use Rattle.record.specs.Records.{wanted};
+ghost use Rattle.record.specs.Promises.{Answers, recordIn};
+ghost use Rattle.record.specs.Working.{AtMost, Decodable, Decoded, roomOf};
 use ending::Ending;
 use mark::checks::wide;
 
@@ -23,7 +19,7 @@ pub enum Reply {
 
 // How many bytes decide the answer, as far as the bytes so far show: two, five, or those of the whole record.
 pub fn wanted(bytes: &[u8]) -> usize
-    ensures { λ r. ⌜ (r ≡ wanted (now (bytes .entry))) × (r ≤ 490) ⌝ }
+    ensures { λ r. ⌜ AtMost 490 (wanted (now (bytes .entry))) r ⌝ }
 {
     if bytes.len() < 2 {
         return 2;
@@ -42,8 +38,8 @@ pub fn wanted(bytes: &[u8]) -> usize
 
 // Decodes a whole record in the working space lent, and writes its line.
 fn decode(number: u64, bytes: &[u8], out: &mut [u8], space: &mut [u8]) -> usize
-    requires { ⌜ (stopOf (now bytes) ≡ 0) × (323 ≤ length (now out)) ⌝ }
-    ensures { λ r. ⌜ ((line : List ℕ) × LineOf number (recordIn (now (space .entry)) (now (bytes .entry))) line × Puts (now (out .entry)) 0 line (now (out .exit)) r × (r ≤ 323)) ⌝ }
+    requires { ⌜ Decodable (now bytes) (now out) ⌝ }
+    ensures { λ r. ⌜ Decoded number (recordIn (now (space .entry)) (now (bytes .entry))) (now (out .entry)) (now (out .exit)) r ⌝ }
 {
     let r = wide(bytes[3]);
     let n = wide(bytes[4]);

@@ -1,9 +1,9 @@
 // The parts of a record.
 ghost use mathlib.Core.Path.{_≡_};
 ghost use Prim.Native.Nat.{_≤_};
-ghost use mathlib.Core.Bool.{false};
 ghost use lib.ListN.{length};
 ghost use Rattle.record.specs.Records.{noMark, outOfRange, sizeIn, stopOf};
+ghost use Rattle.record.specs.Working.{AtMost, Headed};
 use mark::checks::wide;
 
 // The two bytes that a record begins with, 42 4D.
@@ -35,8 +35,8 @@ pub(crate) fn out_of_range(bytes: &[u8]) -> bool
 
 // How many bytes the record has.
 pub(crate) fn size(bytes: &[u8]) -> usize
-    requires { ⌜ (5 ≤ length (now bytes)) × (outOfRange (now bytes) ≡ false) ⌝ }
-    ensures { λ r. ⌜ (r ≡ sizeIn (now (bytes .entry))) × (r ≤ 490) ⌝ }
+    requires { ⌜ Headed (now bytes) ⌝ }
+    ensures { λ r. ⌜ AtMost 490 (sizeIn (now (bytes .entry))) r ⌝ }
 {
     let rows = wide(bytes[3]);
     let columns = wide(bytes[4]);

@@ -1,9 +1,9 @@
 // A line, written into a buffer field by field. Each function writes from a place on and answers the place behind.
-ghost use mathlib.Core.List.{_∷_, _++_};
+ghost use mathlib.Core.List.{_∷_};
 ghost use Prim.Native.Nat.{_+_, _≤_};
 ghost use lib.ListN.{length};
 ghost use Rattle.record.specs.Lines.{decimal, joined, lineOf, wrongFrom};
-ghost use Rattle.record.specs.Working.{Puts, fieldsOf, followed};
+ghost use Rattle.record.specs.Working.{Puts, PutsField, PutsWithin, Room, fieldsOf, followed};
 use ending::Ending;
 
 // Writes a text.
@@ -55,8 +55,8 @@ fn put_wrong(out: &mut [u8], at: usize, flags: &[u8]) -> usize
 
 // Writes the fourth field behind a space: the wrong columns, or `-`.
 fn put_columns(out: &mut [u8], at: usize, flags: &[u8]) -> usize
-    requires { ⌜ (length (now flags) ≤ 96) × (at + 288 ≤ length (now out)) ⌝ }
-    ensures { λ r. ⌜ Puts (now (out .entry)) at (32 ∷ joined (wrongFrom 0 (now (flags .entry)))) (now (out .exit)) r × (r ≤ at + 288) ⌝ }
+    requires { ⌜ Room 288 (now flags) (now out) at ⌝ }
+    ensures { λ r. ⌜ PutsWithin 288 (now (out .entry)) at (32 ∷ joined (wrongFrom 0 (now (flags .entry)))) (now (out .exit)) r ⌝ }
 {
     let end = put_wrong(out, at, flags);
     if end == at {
@@ -68,7 +68,7 @@ fn put_columns(out: &mut [u8], at: usize, flags: &[u8]) -> usize
 // Writes a text and a number.
 fn put_field(out: &mut [u8], at: usize, text: &[u8], n: u8) -> usize
     requires { ⌜ at + (length (now text) + 3) ≤ length (now out) ⌝ }
-    ensures { λ r. ⌜ Puts (now (out .entry)) at (now (text .entry) ++ decimal n) (now (out .exit)) r × (r ≤ at + (length (now (text .entry)) + 3)) ⌝ }
+    ensures { λ r. ⌜ PutsField (now (out .entry)) at (now (text .entry)) n (now (out .exit)) r ⌝ }
 {
     let end = put_text(out, at, text);
     put_number(out, end, n as u64)
@@ -76,8 +76,8 @@ fn put_field(out: &mut [u8], at: usize, text: &[u8], n: u8) -> usize
 
 // Writes the fields of an ending, each behind a space: at most 11 bytes of a word, 3 of a detail and 3 for each column.
 fn put_ending(out: &mut [u8], at: usize, ending: Ending, flags: &[u8]) -> usize
-    requires { ⌜ (length (now flags) ≤ 96) × (at + 302 ≤ length (now out)) ⌝ }
-    ensures { λ r. ⌜ Puts (now (out .entry)) at (fieldsOf ending (now (flags .entry))) (now (out .exit)) r × (r ≤ at + 302) ⌝ }
+    requires { ⌜ Room 302 (now flags) (now out) at ⌝ }
+    ensures { λ r. ⌜ PutsWithin 302 (now (out .entry)) at (fieldsOf ending (now (flags .entry))) (now (out .exit)) r ⌝ }
 {
     match ending {
         Ending::Refused(k) => {
@@ -102,8 +102,8 @@ fn put_ending(out: &mut [u8], at: usize, ending: Ending, flags: &[u8]) -> usize
 
 // Writes the line of a record at the buffer's front, and answers its length.
 pub(crate) fn put_line(out: &mut [u8], number: u64, ending: Ending, flags: &[u8]) -> usize
-    requires { ⌜ (length (now flags) ≤ 96) × (323 ≤ length (now out)) ⌝ }
-    ensures { λ r. ⌜ Puts (now (out .entry)) 0 (lineOf number ending (now (flags .entry))) (now (out .exit)) r × (r ≤ 323) ⌝ }
+    requires { ⌜ Room 323 (now flags) (now out) 0 ⌝ }
+    ensures { λ r. ⌜ PutsWithin 323 (now (out .entry)) 0 (lineOf number ending (now (flags .entry))) (now (out .exit)) r ⌝ }
 {
     let end = put_number(out, 0, number);
     let end = put_ending(out, end, ending, flags);

@@ -15,53 +15,8 @@ Inv-loop held₀ got₀ held got = (got ≤ 490) × (length held ≡ length held
 abbrev μ-loop : tie.MeasureT-loop
 μ-loop held₀ got₀ held got = 490 - got
 
-loop-holds : tie.Need-loop-holds Inv-loop μ-loop
-loop-holds c = search needs
-
-slice-reshare-prefix-wanted : tie.Need-slice-reshare-prefix-wanted Inv-loop μ-loop
-slice-reshare-prefix-wanted c = search needs
-
 slice-aggregate-wanted : tie.Need-slice-aggregate-wanted Inv-loop μ-loop
 slice-aggregate-wanted c = sym (length-take-le (c .before .loop .got) (c .before .loop .held) (omega arith))
-
-wanted-requires : tie.Need-wanted-requires Inv-loop μ-loop
-wanted-requires c κs = search needs
-
-same-length : tie.Need-same-length Inv-loop μ-loop
-same-length c = search needs
-
-returns : tie.Need-returns Inv-loop μ-loop
-returns c = search needs
-
-sub-read-full : tie.Need-sub-read-full Inv-loop μ-loop
-sub-read-full c = search needs
-
-part-read-full-start : tie.Need-part-read-full-start Inv-loop μ-loop
-part-read-full-start c = search needs
-
-part-read-full-end : tie.Need-part-read-full-end Inv-loop μ-loop
-part-read-full-end c = search needs
-
-read-full-requires : tie.Need-read-full-requires Inv-loop μ-loop
-read-full-requires c κs = search needs
-
-sub-if2 : tie.Need-sub-if2 Inv-loop μ-loop
-sub-if2 c = search needs
-
-add-result : tie.Need-add-result Inv-loop μ-loop
-add-result c = search needs
-
-same-length-2 : tie.Need-same-length-2 Inv-loop μ-loop
-same-length-2 c = search needs
-
-returns-2 : tie.Need-returns-2 Inv-loop μ-loop
-returns-2 c = search needs
-
-loop-less : tie.Need-loop-less Inv-loop μ-loop
-loop-less c = search needs
-
-loop-again : tie.Need-loop-again Inv-loop μ-loop
-loop-again c = search needs
 
 pub next-record-spec : {M : Type 1} → statement M
 next-record-spec =
@@ -69,19 +24,19 @@ next-record-spec =
     (tie.spec
     Inv-loop
     μ-loop
-    loop-holds
-    slice-reshare-prefix-wanted
+    (λ c. search needs)
+    (λ c. search needs)
     slice-aggregate-wanted
-    wanted-requires
-    same-length
-    returns
-    sub-read-full
-    part-read-full-start
-    part-read-full-end
-    read-full-requires
-    sub-if2
-    add-result
-    same-length-2
-    returns-2
-    loop-less
-    loop-again)
+    (λ c κs. search needs)
+    (λ c. search needs)
+    (λ c. search needs)
+    (λ c. search needs)
+    (λ c. search needs)
+    (λ c. search needs)
+    (λ c κs. search needs)
+    (λ c. search needs)
+    (λ c. search needs)
+    (λ c. search needs)
+    (λ c. search needs)
+    (λ c. search needs)
+    (λ c. search needs))

@@ -8,21 +8,18 @@ use borrow.Author.Needs.{needs}
 use Rattle.record.proofs.text.put_column.Statement.{statement}
 use Rattle.record.proofs.text.put_column.Tie as tie
 
-slice-write-out : tie.Need-slice-write-out
-slice-write-out c = search needs
-
-add-put-number : tie.Need-add-put-number
-add-put-number c = search needs
-
-put-number-requires : tie.Need-put-number-requires
-put-number-requires c κs = rw length-set (omega arith)
+abbrev start : tie.After-put-number → tie.Start
+start c = c .before .before .before
 
 same-length : tie.Need-same-length
-same-length c = ap length (c .before .before .put-number .ensures .0) ∙ length-lay _ _ _ ∙ length-set (c .before .before .before .before .before .args .out .now) (c .before .before .before .before .before .args .at) (c .before .before .before .before .before .args .gap)
+same-length c = let p = c .before .before in
+    let s = start p .args in
+    ap length (p .put-number .ensures .laid) ∙ length-lay _ _ _ ∙ length-set (s .out .now) (s .at) (s .gap)
 
 returns : tie.Need-returns
-returns c = (c .before .before .put-number .ensures .0 ∙ lay-cons _ _ _ _ (c .before .before .before .before .before .pre), omega (arith, c .before .before .put-number .ensures .1))
+returns c = let p = c .before .before in
+    record { laid = p .put-number .ensures .laid ∙ lay-cons _ _ _ _ (start p .pre); behind = omega (arith, p .put-number .ensures) }
 
 pub put-column-spec : {M : Type 1} → statement M
 put-column-spec =
-    tie.close (tie.spec slice-write-out add-put-number put-number-requires same-length returns)
+    tie.close (tie.spec (λ c. search needs) (λ c. search needs) (λ c κs. rw length-set (omega arith)) same-length returns)

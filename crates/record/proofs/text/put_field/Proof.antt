@@ -13,19 +13,24 @@ use Rattle.record.proofs.text.put_field.Tie as tie
 short : (c : tie.Start) → length (decimal (c .args .n)) ≤ 3
 short c = decimal-short 2 (c .args .n) (omega arith)
 
-put-text-requires : tie.Need-put-text-requires
-put-text-requires c κs = omega arith
-
-put-number-requires : tie.Need-put-number-requires
-put-number-requires c κs = omega (arith, short (c .before .before .before .before .before .before .before), c .before .before .before .put-text .ensures .1, c .before .before .before .put-text .kept)
-
-same-length : tie.Need-same-length
-same-length c = search needs
+-- where the text is written
+abbrev start : tie.After-put-text → tie.Start
+start c = c .before .before .before .before
 
 returns : tie.Need-returns
-returns c = let s = c .before .before .before .before .before .before .before .before .before .before in
-    let more = length-append (s .args .text .now) (decimal (s .args .n)) in
-    (puts-then _ _ (s .args .text .now) (decimal (s .args .n)) (omega (arith, s .pre, short s)) (c .before .before .before .before .before .before .put-text .ensures) (c .before .before .put-number .ensures), omega (arith, short s, c .before .before .put-number .ensures .1, c .before .before .before .before .before .before .put-text .ensures .1))
+returns c = let t = c .before .before .before .before .before .before in
+    let s = start t in
+    let text = s .args .text .now in
+    let p = t .put-text .ensures in
+    let q = c .before .before .put-number .ensures in
+    let more = length-append text (decimal (s .args .n)) in
+    record { puts = puts-then _ _ text (decimal (s .args .n)) (omega (arith, s .pre, short s)) p q; most = omega (arith, short s, p, q) }
 
 pub put-field-spec : {M : Type 1} → statement M
-put-field-spec = tie.close (tie.spec put-text-requires put-number-requires same-length returns)
+put-field-spec =
+    tie.close
+    (tie.spec
+    (λ c κs. omega arith)
+    (λ c κs. let t = c .before .before .before in omega (arith, short (start t), t .put-text .ensures, t .put-text .kept))
+    (λ c. search needs)
+    returns)

@@ -17,41 +17,49 @@ use Rattle.record.proofs.text.put_line.Tie as tie
 short : (c : tie.Start) → length (decimal (c .args .number)) ≤ 20
 short c = decimal-short 19 (c .args .number) (omega arith)
 
-put-number-requires : tie.Need-put-number-requires
-put-number-requires c κs = omega (arith, short (c .before .before .before), c .before .before .before .pre .1)
+-- where the number is written, and where the fields are
+abbrev start : tie.After-put-number → tie.Start
+start c = c .before .before .before .before
+
+abbrev numbered : tie.After-put-ending → tie.After-put-number
+numbered c = c .before .before .before .before
 
 put-ending-requires : tie.Need-put-ending-requires
-put-ending-requires c κs = (c .before .before .before .before .before .before .before .pre .0, omega (arith, short (c .before .before .before .before .before .before .before), c .before .before .before .before .before .before .before .pre .1, c .before .before .before .put-number .ensures .1, c .before .before .before .put-number .kept))
-
-slice-aggregate-put-text : tie.Need-slice-aggregate-put-text
-slice-aggregate-put-text c = search needs
+put-ending-requires c κs = let n = c .before .before .before in
+    let s = start n in
+    record { flags = s .pre .flags; room = omega (arith, short s, s .pre .room, n .put-number .ensures, n .put-number .kept) }
 
 put-text-requires : tie.Need-put-text-requires
-put-text-requires c κs = omega (arith, short (c .before .before .before .before .before .before .before .before .before .before .before .before), c .before .before .before .before .before .before .before .before .before .before .before .before .pre .1, c .before .before .before .before .before .before .before .before .put-number .ensures .1, c .before .before .before .before .before .before .before .before .put-number .kept, c .before .before .before .before .put-ending .ensures .1, c .before .before .before .before .put-ending .kept)
-
-same-length : tie.Need-same-length
-same-length c = search needs
+put-text-requires c κs = let e = c .before .before .before .before in
+    let n = numbered e .put-number in
+    let s = start (numbered e) in
+    omega (arith, short s, s .pre .room, n .ensures, n .kept, e .put-ending .ensures .most, e .put-ending .kept)
 
 returns : tie.Need-returns
-returns c = let s = c .before .before .before .before .before .before .before .before .before .before .before .before .before .before .before in
-    let p = c .before .before .before .before .before .before .before .before .before .before .before .put-number .ensures in
-    let q = c .before .before .before .before .before .before .before .put-ending .ensures in
-    let t = c .before .before .put-text .ensures in
+returns c = let e = c .before .before .before .before .before .before .before in
+    let s = start (numbered e) in
+    let lent = s .args .out .now in
+    let p = numbered e .put-number .ensures in
+    let q = e .put-ending .ensures in
+    let t = c .before .before .put-text in
     let v : List ℕ = decimal (s .args .number) in
     let w : List ℕ = fieldsOf (s .args .ending) (s .args .flags .now) in
     let two = length-append v w in
     let all = length-append (v ++ w) (ascii "\n") in
-    let most : length (v ++ w ++ ascii "\n") ≤ 323 = omega (arith, two, all, short s, p .1, q .0 .1, q .1) in
-    let whole = puts-then (s .args .out .now) 0 (v ++ w) (ascii "\n") (omega (arith, s .pre .1)) (puts-then (s .args .out .now) 0 v w (omega (arith, s .pre .1)) p (q .0)) t in
-    (subst (λ (l : List ℕ). Puts (s .args .out .now) 0 l (c .before .before .put-text .last .0) (c .before .before .put-text .result)) (sym (line-parts _ _ _)) whole, omega (arith, whole .1))
+    let most : length (v ++ w ++ ascii "\n") ≤ 323 = omega (arith, two, all, short s, p, q .puts, q .most) in
+    let begun = puts-then lent 0 v w (omega (arith, s .pre .room)) p (q .puts) in
+    let whole = puts-then lent 0 (v ++ w) (ascii "\n") (omega (arith, s .pre .room)) begun (t .ensures) in record {
+      puts = subst (λ (l : List ℕ). Puts lent 0 l (t .last .0) (t .result)) (sym (line-parts _ _ _)) whole;
+      most = omega (arith, whole);
+    }
 
 pub put-line-spec : {M : Type 1} → statement M
 put-line-spec =
     tie.close
     (tie.spec
-    put-number-requires
+    (λ c κs. let s = c .before .before .before in omega (arith, short s, s .pre .room))
     put-ending-requires
-    slice-aggregate-put-text
+    (λ c. search needs)
     put-text-requires
-    same-length
+    (λ c. search needs)
     returns)

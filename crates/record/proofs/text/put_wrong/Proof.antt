@@ -13,35 +13,27 @@ Inv-loop out₀ at flags end₀ gap₀ i₀ out end gap i = Wrong out₀ at flag
 abbrev μ-loop : tie.MeasureT-loop
 μ-loop out₀ at flags end₀ gap₀ i₀ out end gap i = length flags - i
 
-loop-holds : tie.Need-loop-holds Inv-loop μ-loop
-loop-holds c = wrong-begin _ _ _
+-- where the flag is not 0
+module _ (c : tie.Then1 Inv-loop μ-loop) where
+  abbrev turn : tie.In-loop Inv-loop μ-loop
+  turn = c .before .before
 
-add-i : tie.Need-add-i Inv-loop μ-loop
-add-i c = search needs
-
-shared-slice-read-if1 : tie.Need-shared-slice-read-if1 Inv-loop μ-loop
-shared-slice-read-if1 c = search needs
-
-put-column-requires : tie.Need-put-column-requires Inv-loop μ-loop
-put-column-requires c κs = wrong-room _ _ _ _ _ _ _ (c .before .before .before .before .loop .inv) (c .before .before .before .loop-test .taken) (c .before .if1 .taken) (c .before .before .before .before .before .before .before .pre)
-
-loop-less : tie.Need-loop-less Inv-loop μ-loop
-loop-less c = search needs
+  abbrev start : tie.Start Inv-loop μ-loop
+  start = turn .before .before .before .before
 
 loop-again : tie.Need-loop-again Inv-loop μ-loop
-loop-again c = wrong-put _ _ _ _ _ _ _ (c .before .before .before .before .before .before .before .loop .inv) (c .before .before .before .before .before .before .loop-test .taken) (c .before .before .before .before .if1 .taken) (c .before .before .before .before .before .before .before .before .before .before .pre) (c .before .before .put-column .ensures)
-
-loop-less-2 : tie.Need-loop-less-2 Inv-loop μ-loop
-loop-less-2 c = search needs
+loop-again c = let w = c .before .before .before .before in
+    let t = turn w in
+    let p = c .before .before .put-column .ensures in
+    wrong-put _ _ _ _ _ _ _ (t .before .loop .inv) (t .loop-test .taken) (w .if1 .taken) (start w .pre) p
 
 loop-again-2 : tie.Need-loop-again-2 Inv-loop μ-loop
-loop-again-2 c = wrong-skip _ _ _ _ _ _ _ (c .before .before .before .loop .inv) (c .before .before .loop-test .taken) (c .if1 .left)
+loop-again-2 c = let t = c .before .before in wrong-skip _ _ _ _ _ _ _ (t .before .loop .inv) (t .loop-test .taken) (c .if1 .left)
 
-same-length : tie.Need-same-length Inv-loop μ-loop
-same-length c = c .before .loop .inv .size
-
-returns : tie.Need-returns Inv-loop μ-loop
-returns c = wrong-end _ _ _ _ _ _ _ (c .before .loop .inv) (c .loop-test .left)
+put-column-requires : tie.Need-put-column-requires Inv-loop μ-loop
+put-column-requires c κs = let w = c .before in
+    let t = turn w in
+    wrong-room _ _ _ _ _ _ _ (t .before .loop .inv) (t .loop-test .taken) (w .if1 .taken) (start w .pre)
 
 pub put-wrong-spec : {M : Type 1} → statement M
 put-wrong-spec =
@@ -49,13 +41,12 @@ put-wrong-spec =
     (tie.spec
     Inv-loop
     μ-loop
-    loop-holds
-    add-i
-    shared-slice-read-if1
+    (λ c. wrong-begin _ _ _)
+    (λ c. search needs) (λ c. search needs)
     put-column-requires
-    loop-less
+    (λ c. search needs)
     loop-again
-    loop-less-2
+    (λ c. search needs)
     loop-again-2
-    same-length
-    returns)
+    (λ c. c .before .loop .inv .size)
+    (λ c. wrong-end _ _ _ _ _ _ _ (c .before .loop .inv) (c .loop-test .left)))
