@@ -29,8 +29,8 @@ first-row {d} {k} {xs} {ks} {a} {P} {Q} row rest = (to, λ (p, q). fits (row .1 
     to (fits p r) = (row .0 p, rest .0 r)
 
 module _ {c : Code} (p : Proper c) where
-  rows-reduced : (ks a : List ℕ) → Within 1 (length (c .points)) ks → length a ≡ length ks * length (c .points) → All (IsSymbol (c .degree)) a
-      → Misfits (c .degree) (c .points) ks a 0 ↔ ReducedRows (gf (c .degree)) (c .points) ks a
+  rows-reduced : (ks a : List ℕ) → Within 1 (length (c .points)) ks → length a ≡ length ks * length (c .points)
+      → All (IsSymbol (c .degree)) a → Misfits (c .degree) (c .points) ks a 0 ↔ ReducedRows (gf (c .degree)) (c .points) ks a
   rows-reduced [] a w l s = (λ m. tt, λ z. none)
   rows-reduced (k ∷ ks) a w l s =
       let n : ℕ = length (c .points) in

@@ -47,7 +47,8 @@ module _ (d : Desk) (i : ℕ) (s : List ℕ) where
       → _≡_ {A = Put} (record { outcome = Done; desk = desk }) (putting d i s)
   puts e p = rw (← e, p) refl
 
-  pub puts-not : (k : ℕ) → k ≡ first (putChecks d i s) → (k ≡ 0 → ⊥) → _≡_ {A = Put} (record { outcome = Refused k; desk = d }) (putting d i s)
+  pub puts-not : (k : ℕ) → k ≡ first (putChecks d i s) → (k ≡ 0 → ⊥)
+      → _≡_ {A = Put} (record { outcome = Refused k; desk = d }) (putting d i s)
   puts-not zero e n = absurd (n refl)
   puts-not (suc k) e n = rw (← e) refl
 

@@ -11,7 +11,7 @@
 use mathlib.Core.Path.{_≡_, refl, sym, ap, ap₂, _∙_, subst}
 use mathlib.Core.Bool.{false}
 use mathlib.Core.List.{List}
-use Prim.Native.Nat.{ℕ, zero, suc, _*_, _≤_, _<_}
+use Prim.Native.Nat.{ℕ, zero, suc, _+_, _*_, _≤_, _<_}
 use native.Mathlib.Nat.{mul-le-mul}
 use native.Mathlib.Decide.{decLt}
 use native.Mathlib.Omega.{arith}
@@ -171,6 +171,8 @@ sound-placed : (d : Desk) (i : ℕ) (s : List ℕ) → Sound d → Puttable d i 
 sound-placed d i s h p =
     let size : length (placed d i s .array) ≡ 64 = length-column (d .columns) i s (d .array) ∙ h .array-size in
     let symbols = all-column (d .columns) (IsSymbol (d .degree)) i s (d .array) (p .symbols) (h .symbols) in
+    let inside : (l : ℕ) → l < length s → l * d .columns + i < d .rows * d .columns =
+    λ l q. cell (d .rows) (d .columns) l i (omega (arith, p .count)) (p .column) in
     record {
       degree = h .degree;
       some-rows = h .some-rows;
@@ -188,7 +190,7 @@ sound-placed d i s h p =
       array = is-array (placed d i s) (h .column-count) (h .row-count) (h .cells) size symbols;
       unused-points = h .unused-points;
       unused-lengths = h .unused-lengths;
-      unused-places = λ j g. column-other (d .columns) i s (d .array) j (λ l q e. omega (arith, cell (d .rows) (d .columns) l i (omega (arith, p .count)) (p .column))) ∙ h .unused-places j g;
+      unused-places = λ j g. column-other (d .columns) i s (d .array) j (λ l q e. omega (arith, inside l q)) ∙ h .unused-places j g;
     }
 
 pub sound : {d : Desk} → Made d → Sound d

@@ -1,17 +1,8 @@
 // How many rows of an array are not values of a polynomial with at most as many coefficients as the row's length.
-ghost use mathlib.Core.Path.{_≡_};
-ghost use mathlib.Core.Bool.{false};
 ghost use mathlib.Core.List.{[], _∷_};
-ghost use Prim.Native.Nat.{_≤_};
-ghost use lib.ListN.{length};
-ghost use Rattle.refusal.specs.Refusal.{badDegree};
-ghost use Rattle.field.specs.Symbols.{IsSymbol};
-ghost use Rattle.field.specs.Tables.{IsTable};
-ghost use Rattle.poly.specs.Poly.{All};
-ghost use Rattle.rows.specs.Rows.{Points, Inverses};
-ghost use Rattle.mark.specs.Code.{codeOf, IsArray, largest};
-ghost use Rattle.mark.proofs.Proper.{Proper};
+ghost use Rattle.mark.specs.Code.{codeOf};
 ghost use Rattle.desk.specs.Verdict.{Misfits};
+ghost use Rattle.desk.specs.Working.{ArrayGiven, RowGiven, RowsGiven};
 use field::tables::LENT;
 use mark::checks;
 use mark::checks::wide;
@@ -19,9 +10,7 @@ use mark::checks::wide;
 // 1 where the row is not values of a polynomial with at most k coefficients, 0 where it is: k rounds of divided differences
 // leave something, or nothing, but zeros; ws are the inverses of the rounds.
 fn misfit(table: &[u8; LENT], degree: u32, points: &[u8], k: usize, ws: &[u8], row: &[u8]) -> usize
-    requires { ⌜ (badDegree degree ≡ false) × IsTable degree (now table) × Points degree (now points) ⌝ }
-    requires { ⌜ (k ≤ length (now points)) × (length (now points) ≤ 16) × (length (now row) ≡ length (now points)) ⌝ }
-    requires { ⌜ All (IsSymbol degree) (now row) × Inverses degree (now points) k (now ws) ⌝ }
+    requires { ⌜ RowGiven degree (now table) (now points) k (now ws) (now row) ⌝ }
     ensures { λ r. ⌜ Misfits degree (now (points .entry)) (k ∷ []) (now (row .entry)) r ⌝ }
 {
     let n = points.len();
@@ -41,9 +30,7 @@ fn rows_misfits(
     ws: &[u8],
     array: &[u8],
 ) -> usize
-    requires { ⌜ (badDegree degree ≡ false) × IsTable degree (now table) ⌝ }
-    requires { ⌜ (length (now points) ≤ 16) × (length (now lengths) ≤ 4) ⌝ }
-    requires { ⌜ Proper (codeOf degree (now points) (now lengths)) × IsArray (codeOf degree (now points) (now lengths)) (now array) × Inverses degree (now points) (largest (now lengths)) (now ws) ⌝ }
+    requires { ⌜ RowsGiven (now table) (now ws) (codeOf degree (now points) (now lengths)) (now array) ⌝ }
     ensures { λ r. ⌜ Misfits degree (now (points .entry)) (now (lengths .entry)) (now (array .entry)) r ⌝ }
 {
     let n = points.len();
@@ -73,9 +60,7 @@ pub fn misfits(
     lengths: &[u8],
     array: &[u8],
 ) -> usize
-    requires { ⌜ (badDegree degree ≡ false) × IsTable degree (now table) ⌝ }
-    requires { ⌜ (length (now points) ≤ 16) × (length (now lengths) ≤ 4) ⌝ }
-    requires { ⌜ Proper (codeOf degree (now points) (now lengths)) × IsArray (codeOf degree (now points) (now lengths)) (now array) ⌝ }
+    requires { ⌜ ArrayGiven (now table) (codeOf degree (now points) (now lengths)) (now array) ⌝ }
     ensures { λ r. ⌜ Misfits degree (now (points .entry)) (now (lengths .entry)) (now (array .entry)) r ⌝ }
 {
     let mut ws = [0u8; 1536];

@@ -3,11 +3,12 @@ mod checks;
 mod fit;
 
 ghost use mathlib.Core.Path.{_≡_};
-ghost use Prim.Native.Nat.{_*_, _≤_, _<_};
+ghost use Prim.Native.Nat.{_≤_};
 ghost use lib.ListN.{length, take};
 ghost use Rattle.mark.specs.Code.{codeOf};
 ghost use Rattle.desk.specs.Desk.{Made, opening, placed, putting, zeroDesk};
 ghost use Rattle.desk.specs.Verdict.{Verdict};
+ghost use Rattle.desk.specs.Working.{Placeable};
 use field::tables;
 use mark::Outcome;
 
@@ -81,7 +82,7 @@ impl Desk {
 
     // The desk with the symbols, one a row, in a column.
     fn place(mut self, column: usize, symbols: [u8; 4]) -> Self
-        requires { ⌜ (column < self .columns) × (self .rows ≤ 4) × (self .rows * self .columns ≤ 64) ⌝ }
+        requires { ⌜ Placeable self column ⌝ }
         ensures { λ r. ⌜ r ≡ placed self column (take (self .rows) symbols) ⌝ }
     {
         let n = self.columns;

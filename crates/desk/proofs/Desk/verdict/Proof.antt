@@ -3,65 +3,48 @@
 use mathlib.Core.Path.{sym}
 use native.Mathlib.Omega.{arith}
 use lib.Seq.{length-take-le}
-use Rattle.desk.proofs.Sound.{sound}
+use Rattle.desk.proofs.Sound.{Sound, sound}
 use borrow.Author.Needs.{needs}
 use Rattle.desk.proofs.Desk.verdict.Statement.{statement}
 use Rattle.desk.proofs.Desk.verdict.Tie as tie
 
-mul-cells : tie.Need-mul-cells
-mul-cells c = omega (arith, sound (c .before .before .before .pre) .cells)
+-- where the desk's parts are copied, where the table is lent, and where the parts in use are
+abbrev start : tie.After-array → tie.Start
+start c = c .before .before .before
 
-lend-requires : tie.Need-lend-requires
-lend-requires c κs = sound (c .before .before .before .pre) .degree
+abbrev copied : tie.After-table → tie.After-array
+copied c = c .before .before
 
-array-share-prefix-points : tie.Need-array-share-prefix-points
-array-share-prefix-points c =
-    let h = sound (c .before .before .before .before .before .pre) in omega (arith, h .points-size, h .most-columns)
+abbrev lent : tie.After-lengths2 → tie.After-table
+lent c = c .before .before
 
-slice-aggregate-misfits : tie.Need-slice-aggregate-misfits
-slice-aggregate-misfits c = sym (sound (c .before .before .before .before .before .before .pre) .column-count)
-
-array-share-prefix-lengths : tie.Need-array-share-prefix-lengths
-array-share-prefix-lengths c =
-    let h = sound (c .before .before .before .before .before .before .pre) in omega (arith, h .lengths-size, h .most-rows)
-
-slice-aggregate-misfits-2 : tie.Need-slice-aggregate-misfits-2
-slice-aggregate-misfits-2 c = sym (sound (c .before .before .before .before .before .before .before .pre) .row-count)
-
-array-share-prefix-array : tie.Need-array-share-prefix-array
-array-share-prefix-array c =
-    let h = sound (c .before .before .before .before .before .before .before .pre) in omega (arith, h .array-size, h .cells)
-
-slice-aggregate-misfits-3 : tie.Need-slice-aggregate-misfits-3
-slice-aggregate-misfits-3 c =
-    let start = c .before .before .before .before .before .before .before .before in
-    let h = sound (start .pre) in
-    sym (length-take-le _ (start .args .self .array) (omega (arith, h .array-size, h .cells)))
+held : (c : tie.After-array) → Sound (start c .args .self)
+held c = sound (start c .pre)
 
 misfits-requires : tie.Need-misfits-requires
-misfits-requires c κs =
-    let h = sound (c .before .before .before .before .before .before .before .before .pre) in (
-      (h .degree, c .before .before .before .before .lend .ensures),
-      (
-        (omega (arith, h .column-count, h .most-columns), omega (arith, h .row-count, h .most-rows)),
-        (h .proper, h .array),
-      ),
-    )
-
-returns : tie.Need-returns
-returns c = search needs
+misfits-requires c κs = let t = lent (c .before) in
+    let h = held (copied t) in record {
+      degree = h .degree;
+      table = t .before .lend .ensures;
+      most-columns = omega (arith, h .column-count, h .most-columns);
+      most-rows = omega (arith, h .row-count, h .most-rows);
+      proper = h .proper;
+      array = h .array;
+    }
 
 pub verdict-spec : {M : Type 1} → statement M
 verdict-spec =
     tie.close
     (tie.spec
-    mul-cells
-    lend-requires
-    array-share-prefix-points
-    slice-aggregate-misfits
-    array-share-prefix-lengths
-    slice-aggregate-misfits-2
-    array-share-prefix-array
-    slice-aggregate-misfits-3
+    (λ c. omega (arith, held c .cells))
+    (λ c κs. held c .degree)
+    (λ c. let h = held (copied c) in omega (arith, h .points-size, h .most-columns))
+    (λ c. sym (held (copied (c .before)) .column-count))
+    (λ c. let h = held (copied (c .before)) in omega (arith, h .lengths-size, h .most-rows))
+    (λ c. sym (held (copied (lent c)) .row-count))
+    (λ c. let h = held (copied (lent c)) in omega (arith, h .array-size, h .cells))
+    (λ c. let s = copied (lent (c .before)) in
+    let h = held s in
+    sym (length-take-le _ (start s .args .self .array) (omega (arith, h .array-size, h .cells))))
     misfits-requires
-    returns)
+    (λ c. search needs))

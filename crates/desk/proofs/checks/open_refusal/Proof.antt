@@ -1,62 +1,61 @@
 -- `checks::open_refusal` is the number of the first check of opening that applies.
 -- Assumes nothing.
-use mathlib.Core.Path.{sym, _∙_}
+use mathlib.Core.Path.{_≡_, sym, _∙_}
+use mathlib.Core.List.{[]}
+use Prim.Native.Nat.{ℕ}
+use lib.ListN.{drop}
 use Rattle.refusal.specs.Refusal.{first}
+use Rattle.refusal.proofs.Laws.{hit, miss}
+use Rattle.mark.specs.Code.{Code, codeOf}
+use Rattle.desk.specs.Desk.{openChecks}
 use borrow.Author.Needs.{needs}
 use Rattle.desk.proofs.checks.open_refusal.Statement.{statement}
 use Rattle.desk.proofs.checks.open_refusal.Tie as tie
 
-bad-degree-requires : tie.Need-bad-degree-requires
-bad-degree-requires c κs = search needs
+-- the code, behind each check, and that the first k do not apply
+abbrev code0 : tie.After-bad-degree → Code
+code0 c = let s = c .before .before .before .args in codeOf (s .degree) (s .points .now) (s .lengths .now)
 
-returns : tie.Need-returns
-unfolding first
-returns c = simp (sym (c .before .bad-degree .ensures) ∙ c .if1 .taken)
+abbrev code1 : tie.After-outside → Code
+code1 c = code0 (c .before .before)
 
-outside-requires : tie.Need-outside-requires
-outside-requires c κs = search needs
+abbrev code2 : tie.After-outside2 → Code
+code2 c = code1 (c .before .before)
 
-returns-2 : tie.Need-returns-2
-unfolding first
-returns-2 c = simp (sym (c .before .before .before .bad-degree .ensures) ∙ c .before .before .if1 .left, sym (c .before .outside .ensures) ∙ c .if2 .taken)
+abbrev code3 : tie.After-some-outside → Code
+code3 c = code2 (c .before .before)
 
-outside-requires-2 : tie.Need-outside-requires-2
-outside-requires-2 c κs = search needs
+abbrev Rest : ℕ → Code → Type 0
+Rest k c = first (openChecks c) ≡ first (drop k (openChecks c))
 
-returns-3 : tie.Need-returns-3
-unfolding first
-returns-3 c = simp (sym (c .before .before .before .before .before .bad-degree .ensures) ∙ c .before .before .before .before .if1 .left, sym (c .before .before .before .outside .ensures) ∙ c .before .before .if2 .left, sym (c .before .outside2 .ensures) ∙ c .if3 .taken)
+rest1 : (c : tie.Else1) → Rest 1 (code0 (c .before))
+rest1 c = miss _ _ _ (sym (c .before .bad-degree .ensures) ∙ c .if1 .left)
 
-some-outside-requires : tie.Need-some-outside-requires
-some-outside-requires c κs = search needs
+rest2 : (c : tie.Else2) → Rest 2 (code1 (c .before))
+rest2 c = rest1 (c .before .before) ∙ miss _ _ _ (sym (c .before .outside .ensures) ∙ c .if2 .left)
 
-returns-4 : tie.Need-returns-4
-unfolding first
-returns-4 c = simp (sym (c .before .before .before .before .before .before .before .bad-degree .ensures) ∙ c .before .before .before .before .before .before .if1 .left, sym (c .before .before .before .before .before .outside .ensures) ∙ c .before .before .before .before .if2 .left, sym (c .before .before .before .outside2 .ensures) ∙ c .before .before .if3 .left, sym (c .before .some-outside .ensures) ∙ c .if4 .taken)
+rest3 : (c : tie.Else3) → Rest 3 (code2 (c .before))
+rest3 c = rest2 (c .before .before) ∙ miss _ _ _ (sym (c .before .outside2 .ensures) ∙ c .if3 .left)
 
-bad-points-requires : tie.Need-bad-points-requires
-bad-points-requires c κs = search needs
-
-returns-5 : tie.Need-returns-5
-unfolding first
-returns-5 c = simp (sym (c .before .before .before .before .before .before .before .before .before .bad-degree .ensures) ∙ c .before .before .before .before .before .before .before .before .if1 .left, sym (c .before .before .before .before .before .before .before .outside .ensures) ∙ c .before .before .before .before .before .before .if2 .left, sym (c .before .before .before .before .before .outside2 .ensures) ∙ c .before .before .before .before .if3 .left, sym (c .before .before .before .some-outside .ensures) ∙ c .before .before .if4 .left, sym (c .before .bad-points .ensures) ∙ c .if5 .taken)
+rest4 : (c : tie.Else4) → Rest 4 (code3 (c .before))
+rest4 c = rest3 (c .before .before) ∙ miss _ _ _ (sym (c .before .some-outside .ensures) ∙ c .if4 .left)
 
 returns-6 : tie.Need-returns-6
 unfolding first
-returns-6 c = simp (sym (c .before .before .before .before .before .before .before .before .before .bad-degree .ensures) ∙ c .before .before .before .before .before .before .before .before .if1 .left, sym (c .before .before .before .before .before .before .before .outside .ensures) ∙ c .before .before .before .before .before .before .if2 .left, sym (c .before .before .before .before .before .outside2 .ensures) ∙ c .before .before .before .before .if3 .left, sym (c .before .before .before .some-outside .ensures) ∙ c .before .before .if4 .left, sym (c .before .bad-points .ensures) ∙ c .if5 .left)
+returns-6 c = sym (rest4 (c .before .before) ∙ miss 6 _ [] (sym (c .before .bad-points .ensures) ∙ c .if5 .left))
 
 pub open-refusal-spec : {M : Type 1} → statement M
 open-refusal-spec =
     tie.close
     (tie.spec
-    bad-degree-requires
-    returns
-    outside-requires
-    returns-2
-    outside-requires-2
-    returns-3
-    some-outside-requires
-    returns-4
-    bad-points-requires
-    returns-5
+    (λ c κs. search needs)
+    (λ c. sym (hit _ _ _ (sym (c .before .bad-degree .ensures) ∙ c .if1 .taken)))
+    (λ c κs. search needs)
+    (λ c. sym (rest1 (c .before .before) ∙ hit _ _ _ (sym (c .before .outside .ensures) ∙ c .if2 .taken)))
+    (λ c κs. search needs)
+    (λ c. sym (rest2 (c .before .before) ∙ hit _ _ _ (sym (c .before .outside2 .ensures) ∙ c .if3 .taken)))
+    (λ c κs. search needs)
+    (λ c. sym (rest3 (c .before .before) ∙ hit _ _ _ (sym (c .before .some-outside .ensures) ∙ c .if4 .taken)))
+    (λ c κs. search needs)
+    (λ c. sym (rest4 (c .before .before) ∙ hit _ _ _ (sym (c .before .bad-points .ensures) ∙ c .if5 .taken)))
     returns-6)

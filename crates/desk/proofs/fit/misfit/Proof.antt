@@ -2,86 +2,56 @@
 -- Assumes nothing.
 use mathlib.Core.Path.{_≡_, refl, sym, ap, _∙_}
 use native.Mathlib.Omega.{arith}
-use lib.ListN.{drop, replicate}
+use lib.ListN.{replicate}
 use Rattle.refusal.specs.Refusal.{someOutside}
-use Rattle.field.specs.Arithmetic.{gf}
-use Rattle.poly.proofs.Forms.{reduce}
 use Rattle.rows.proofs.Symbols.{symbols-held}
 use Rattle.mark.proofs.Held.{held-rest}
-use Rattle.desk.proofs.Verdicts.{Given, row-fits, row-fits-not}
+use Rattle.desk.proofs.Verdicts.{behind, row-fits, row-fits-not}
 use borrow.Author.Needs.{needs}
 use Rattle.desk.proofs.fit.misfit.Statement.{statement}
 use Rattle.desk.proofs.fit.misfit.Tie as tie
 
-slice-aggregate-store : tie.Need-slice-aggregate-store
-slice-aggregate-store c = search needs
-
-store-requires : tie.Need-store-requires
-store-requires c κs = search needs
-
-slice-aggregate-reduce : tie.Need-slice-aggregate-reduce
-slice-aggregate-reduce c = search needs
+-- where the row is copied
+abbrev start : tie.After-store → tie.Start
+start c = c .before .before .before .before .before
 
 reduce-requires : tie.Need-reduce-requires
-reduce-requires c κs =
-    let start = c .before .before .before .before .before .before .before in
-    let p = start .pre in (
-      p .0,
+reduce-requires c κs = let copy = c .before .before in
+    let s = start copy .args in
+    let p = start copy .pre in
+    let few = p .most-points in
+    let same = p .count in (
+      (p .degree, p .table, p .points),
       (
-        (p .1 .0 .0, omega (arith, p .1 .0 .1), omega (arith, p .1 .0 .1, c .before .before .store .kept .1 .0)),
-        (
-          symbols-held (start .args .degree) (start .args .row .now) 32 (c .before .before .store .ensures) (omega (arith, p .1 .0)) (omega (arith, p .1 .0 .1)) (p .1 .1 .0),
-          p .1 .1 .1,
-        ),
+        (p .length-in, omega arith, omega (arith, copy .store .kept .1 .0)),
+        (symbols-held (s .degree) (s .row .now) 32 (copy .store .ensures) (omega arith) (omega arith) (p .symbols), p .inverses),
       ),
     )
 
-sub-some-outside : tie.Need-sub-some-outside
-sub-some-outside c = search needs
-
-part-some-outside-start : tie.Need-part-some-outside-start
-part-some-outside-start c = search needs
-
-part-some-outside-end : tie.Need-part-some-outside-end
-part-some-outside-end c = search needs
-
-some-outside-requires : tie.Need-some-outside-requires
-some-outside-requires c κs = search needs
-
 -- the reduced values, as the code has them
 module _ (c : tie.After-some-outside) where
-  abbrev start : tie.Start
-  start = c .before .before .before .before .before .before .before .before .before .before .before .before
+  abbrev reduced : tie.After-reduce
+  reduced = c .before .before .before .before
 
-  given : Given (start .args .degree) (start .args .points .now) (start .args .k) (start .args .row .now)
-  given =
-      let p = start .pre in
-      record { degree = p .0 .0; points = p .0 .2; length-in = p .1 .0 .0; symbols = p .1 .1 .0; count = p .1 .0 .2 }
+  abbrev copied : tie.After-store
+  copied = reduced .before .before .before
 
-  nonzero : c .some-outside .result
-      ≡ someOutside 0 0 (drop (start .args .k) (reduce (gf (start .args .degree)) (start .args .k) (start .args .points .now) (start .args .row .now)))
-  nonzero =
-      let stored = c .before .before .before .before .before .before .before .store .ensures in
+  nonzero : let s = start copied .args in
+      c .some-outside .result ≡ someOutside 0 0 (behind (s .degree) (s .points .now) (s .k) (s .row .now))
+  nonzero = let s = start copied .args in
+      let p = start copied .pre in
+      let few = p .most-points in
       c .some-outside .ensures
-      ∙ ap (someOutside 0 0) (held-rest (start .args .degree) (start .args .k) (start .args .points .now) (start .args .row .now) (replicate 32 0) _ (given .count) (omega (arith, start .pre .1 .0 .1)) stored (c .before .before .before .before .reduce .ensures) refl)
-
-returns : tie.Need-returns
-returns c = row-fits-not (given (c .before)) (sym (nonzero (c .before)) ∙ c .if1 .taken)
-
-returns-2 : tie.Need-returns-2
-returns-2 c = row-fits (given (c .before)) (sym (nonzero (c .before)) ∙ c .if1 .left)
+      ∙ ap (someOutside 0 0)
+      (held-rest (s .degree) (s .k) (s .points .now) (s .row .now) (replicate 32 0) _ (p .count) (omega arith)
+      (copied .store .ensures) (reduced .reduce .ensures) refl)
 
 pub misfit-spec : {M : Type 1} → statement M
 misfit-spec =
     tie.close
     (tie.spec
-    slice-aggregate-store
-    store-requires
-    slice-aggregate-reduce
+    (λ c. search needs) (λ c κs. search needs) (λ c. search needs)
     reduce-requires
-    sub-some-outside
-    part-some-outside-start
-    part-some-outside-end
-    some-outside-requires
-    returns
-    returns-2)
+    (λ c. search needs) (λ c. search needs) (λ c. search needs) (λ c κs. search needs)
+    (λ c. row-fits-not (start (copied (c .before)) .pre) (sym (nonzero (c .before)) ∙ c .if1 .taken))
+    (λ c. row-fits (start (copied (c .before)) .pre) (sym (nonzero (c .before)) ∙ c .if1 .left)))

@@ -8,41 +8,31 @@ use borrow.Author.Needs.{needs}
 use Rattle.desk.proofs.fit.misfits.Statement.{statement}
 use Rattle.desk.proofs.fit.misfits.Tie as tie
 
-largest-requires : tie.Need-largest-requires
-largest-requires c κs = search needs
-
-slice-aggregate-all-inverses : tie.Need-slice-aggregate-all-inverses
-slice-aggregate-all-inverses c = search needs
+-- where the largest length is known
+abbrev start : tie.After-largest → tie.Start
+start c = c .before .before .before .before
 
 all-inverses-requires : tie.Need-all-inverses-requires
-all-inverses-requires c κs =
-    let start = c .before .before .before .before .before in
-    let p = start .pre in
-    let code = p .1 .1 .0 in
-    let most = largest-most (length (start .args .points .now)) (start .args .lengths .now) (code .lengths) in
+all-inverses-requires c κs = let s = start (c .before) in
+    let p = s .pre in
+    let few = p .most-columns in
+    let most = largest-most (length (s .args .points .now)) (s .args .lengths .now) (p .proper .lengths) in
     let k = c .before .largest .ensures in (
-      (p .0 .0, p .0 .1, record { symbols = code .symbols; distinct = code .distinct }),
-      ((omega (arith, most, k), omega (arith, p .1 .0), omega (arith, most, k, p .1 .0)), symbols-zeros (start .args .degree) 1536),
+      (p .degree, p .table, record { symbols = p .proper .symbols; distinct = p .proper .distinct }),
+      ((omega arith, omega arith, omega arith), symbols-zeros (s .args .degree) 1536),
     )
 
-slice-aggregate-rows-misfits : tie.Need-slice-aggregate-rows-misfits
-slice-aggregate-rows-misfits c = search needs
-
 rows-misfits-requires : tie.Need-rows-misfits-requires
-rows-misfits-requires c κs =
-    let p = c .before .before .before .before .before .before .before .before .pre in
-    (p .0, (p .1 .0, (p .1 .1 .0, p .1 .1 .1, rw (c .before .before .before .before .largest .ensures) at (c .before .before .all-inverses .ensures))))
-
-returns : tie.Need-returns
-returns c = search needs
+rows-misfits-requires c κs = let all = c .before .before in
+    let k = all .before .before in
+    record { given = start k .pre; inverses = rw (k .largest .ensures) at (all .all-inverses .ensures) }
 
 pub misfits-spec : {M : Type 1} → statement M
 misfits-spec =
     tie.close
     (tie.spec
-    largest-requires
-    slice-aggregate-all-inverses
+    (λ c κs. search needs) (λ c. search needs)
     all-inverses-requires
-    slice-aggregate-rows-misfits
+    (λ c. search needs)
     rows-misfits-requires
-    returns)
+    (λ c. search needs))
