@@ -53,9 +53,7 @@ returns-3 c = let d = c .before in
     )
 
 pub answer-spec : {M : Type 1} → statement M
-answer-spec =
-    tie.close
-    (tie.spec
+answer-spec = tie.close (tie.spec
     returns
     (λ c κs. search needs) (λ c. search needs) (λ c κs. search needs)
     returns-2

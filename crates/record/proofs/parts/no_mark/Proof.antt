@@ -7,9 +7,7 @@ use Rattle.record.proofs.parts.no_mark.Statement.{statement}
 use Rattle.record.proofs.parts.no_mark.Tie as tie
 
 pub no-mark-spec : {M : Type 1} → statement M
-no-mark-spec =
-    tie.close
-    (tie.spec
+no-mark-spec = tie.close (tie.spec
     (λ c. sym (few-bytes _ (c .if1 .taken)))
     (λ c. search needs) (λ c. search needs)
     (λ c. sym (first-byte _ (c .before .before .if1 .left) (c .if2 .taken)))

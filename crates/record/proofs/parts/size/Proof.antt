@@ -13,12 +13,7 @@ sizes : (c : tie.After-wide2) → Sizes (start c .args .bytes .now) (c .before .
 sizes c = sizes-of (start c .pre .inside) (c .before .before .wide .ensures) (c .wide2 .ensures)
 
 pub size-spec : {M : Type 1} → statement M
-size-spec =
-    tie.close
-    (tie.spec
+size-spec = tie.close (tie.spec
     (λ c. search needs) (λ c κs. search needs) (λ c. search needs) (λ c κs. search needs)
-    (λ c. omega (arith, sizes c))
-    (λ c. omega (arith, sizes c))
-    (λ c. omega (arith, sizes c))
-    (λ c. omega (arith, sizes c))
+    (λ c. omega (arith, sizes c)) (λ c. omega (arith, sizes c)) (λ c. omega (arith, sizes c)) (λ c. omega (arith, sizes c))
     (λ c. record { is = sizes c .total; most = omega (arith, sizes c) }))

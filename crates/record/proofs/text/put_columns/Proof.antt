@@ -23,9 +23,7 @@ returns-2 c = let w = c .before .before .before in let s = start w in record {
 }
 
 pub put-columns-spec : {M : Type 1} → statement M
-put-columns-spec =
-    tie.close
-    (tie.spec
+put-columns-spec = tie.close (tie.spec
     (λ c κs. let s = c .before .before .before in omega (arith, followed-short (s .args .flags .now) (s .pre .flags)))
     (λ c. search needs) (λ c κs. search needs) (λ c. search needs)
     returns

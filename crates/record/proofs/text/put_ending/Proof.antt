@@ -49,9 +49,7 @@ returns-5 c = let p = c .before .before .before .before .before .before .before 
     (c .before .before .put-text4 .ensures)
 
 pub put-ending-spec : {M : Type 1} → statement M
-put-ending-spec =
-    tie.close
-    (tie.spec
+put-ending-spec = tie.close (tie.spec
     (λ c. search needs) (λ c. search needs) (λ c κs. search needs) (λ c. search needs) (λ c κs. search needs)
     (λ c. search needs) (λ c. search needs) (λ c κs. search needs) (λ c κs. search needs)
     (λ c. search needs) (λ c. search needs) (λ c κs. search needs)

@@ -27,9 +27,7 @@ returns c = let t = c .before .before .before .before .before .before in
     record { puts = puts-then _ _ text (decimal (s .args .n)) (omega (arith, s .pre, short s)) p q; most = omega (arith, short s, p, q) }
 
 pub put-field-spec : {M : Type 1} → statement M
-put-field-spec =
-    tie.close
-    (tie.spec
+put-field-spec = tie.close (tie.spec
     (λ c κs. omega arith)
     (λ c κs. let t = c .before .before .before in omega (arith, short (start t), t .put-text .ensures, t .put-text .kept))
     (λ c. search needs)

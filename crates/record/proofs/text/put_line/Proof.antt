@@ -54,9 +54,7 @@ returns c = let e = c .before .before .before .before .before .before .before in
     }
 
 pub put-line-spec : {M : Type 1} → statement M
-put-line-spec =
-    tie.close
-    (tie.spec
+put-line-spec = tie.close (tie.spec
     (λ c κs. let s = c .before .before .before in omega (arith, short s, s .pre .room))
     put-ending-requires
     (λ c. search needs)

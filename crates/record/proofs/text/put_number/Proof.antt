@@ -19,9 +19,7 @@ digits c = let made = c .decimal .ensures .1 in
     made .1 ∙ digits-decimal (c .decimal .result) (start c .args .n) (start c .args .n) (made .0) (le-refl _)
 
 pub put-number-spec : {M : Type 1} → statement M
-put-number-spec =
-    tie.close
-    (tie.spec
+put-number-spec = tie.close (tie.spec
     (λ c κs. search needs) (λ c. search needs) (λ c. search needs)
     (λ c κs. rw (digits (c .before .before)) (start (c .before .before) .pre))
     (λ c. search needs)

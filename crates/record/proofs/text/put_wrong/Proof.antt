@@ -36,11 +36,7 @@ put-column-requires c κs = let w = c .before in
     wrong-room _ _ _ _ _ _ _ (t .before .loop .inv) (t .loop-test .taken) (w .if1 .taken) (start w .pre)
 
 pub put-wrong-spec : {M : Type 1} → statement M
-put-wrong-spec =
-    tie.close
-    (tie.spec
-    Inv-loop
-    μ-loop
+put-wrong-spec = tie.close (tie.spec Inv-loop μ-loop
     (λ c. wrong-begin _ _ _)
     (λ c. search needs) (λ c. search needs)
     put-column-requires
