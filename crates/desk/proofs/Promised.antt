@@ -6,7 +6,7 @@
 --   puts, puts-not                    the same of putting
 --   made-open, made-put               the desk that is handed over came from opening and putting
 -- Assumes nothing.
-use mathlib.Core.Path.{_≡_, refl, sym, _∙_, subst}
+use mathlib.Core.Path.{_≡_, refl, sym, ap₂, _∙_, subst}
 use mathlib.Core.List.{List}
 use Prim.Native.Nat.{ℕ, zero, suc}
 use Rattle.refusal.specs.Refusal.{first}
@@ -15,9 +15,10 @@ use Rattle.mark.specs.Promises.{numberOf}
 use Rattle.mark.specs.declared.Outcome.the-variants.{Done, Refused}
 use Rattle.desk.specs.Desk.{zeroDesk, spareCode, outcomeOf, openChecks, opening, placed, putChecks, putting, Made, opened, put}
 use Rattle.desk.specs.declared.Desk.{Desk}
+use Rattle.desk.specs.declared.Judged.{Judged}
 use Rattle.desk.specs.declared.Opened.{Opened}
 use Rattle.desk.specs.declared.Put.{Put}
-use Rattle.desk.specs.Verdict.{Verdict}
+use Rattle.desk.specs.Verdict.{Judges}
 use Rattle.desk.proofs.Verdicts.{same-count}
 
 pub unique-opening : (c : Code) (r r′ : Opened) → r ≡ opening c → r′ ≡ opening c → r ≡ r′
@@ -26,8 +27,9 @@ unique-opening c r r′ p q = p ∙ sym q
 pub unique-putting : (d : Desk) (i : ℕ) (s : List ℕ) (r r′ : Put) → r ≡ putting d i s → r′ ≡ putting d i s → r ≡ r′
 unique-putting d i s r r′ p q = p ∙ sym q
 
-pub unique-verdict : (d : Desk) (v v′ : ℕ) → Verdict d v → Verdict d v′ → v ≡ v′
-unique-verdict d v v′ p q = same-count p q
+pub unique-verdict : (d : Desk) (r r′ : Judged) → Judges d r → Judges d r′ → r ≡ r′
+unique-verdict d r r′ p q =
+    ap₂ (λ (v : ℕ) (e : Desk). record { verdict = v; desk = e }) (same-count (p .number) (q .number)) (p .kept ∙ sym (q .kept))
 
 pub refusal-number : (k : ℕ) → (k ≡ 0 → ⊥) → numberOf (outcomeOf k) ≡ k
 refusal-number zero n = absurd (n refl)

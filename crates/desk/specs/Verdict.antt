@@ -4,6 +4,7 @@
 --   IsRow d xs k ys       the row ys is the values at the points xs of a polynomial with at most k coefficients
 --   Misfits d xs ks a v   v of the rows of a, one for each length of ks, are not
 --   Verdict d v           v is the verdict on the desk d
+--   Judges d r            r is what the verdict on d hands back
 use mathlib.Core.Path.{_≡_}
 use mathlib.Core.List.{List, [], _∷_}
 use Prim.Native.Nat.{ℕ, suc}
@@ -12,6 +13,7 @@ use Rattle.field.specs.Arithmetic.{gf}
 use Rattle.poly.specs.Poly.{Poly, valuesAt}
 use Rattle.desk.specs.Desk.{codeOf, arrayOf}
 use Rattle.desk.specs.declared.Desk.{Desk}
+use Rattle.desk.specs.declared.Judged.{Judged}
 
 abbrev pub IsRow : ℕ → List ℕ → ℕ → List ℕ → Type 0
 IsRow d xs k ys = (f : List ℕ) × Poly (gf d) k f × (valuesAt (gf d) xs f ≡ ys)
@@ -26,3 +28,8 @@ pub data Misfits (d : ℕ) (xs : List ℕ) : List ℕ → List ℕ → ℕ → T
 
 abbrev pub Verdict : Desk → ℕ → Type 0
 Verdict d v = Misfits (codeOf d .degree) (codeOf d .points) (codeOf d .lengths) (arrayOf d) v
+
+-- 'Each operation consumes the old desk and hands the new one back': the verdict hands it back as it was
+pub record Judges (d : Desk) (r : Judged) : Type 0 where
+  pub number : Verdict d (r .verdict)
+  pub kept : r .desk ≡ d

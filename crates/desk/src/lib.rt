@@ -7,7 +7,7 @@ ghost use Prim.Native.Nat.{_≤_};
 ghost use lib.ListN.{length, take};
 ghost use Rattle.mark.specs.Code.{codeOf};
 ghost use Rattle.desk.specs.Desk.{Made, opening, placed, putting, zeroDesk};
-ghost use Rattle.desk.specs.Verdict.{Verdict};
+ghost use Rattle.desk.specs.Verdict.{Judges};
 ghost use Rattle.desk.specs.Working.{Placeable};
 use field::tables;
 use mark::Outcome;
@@ -31,6 +31,12 @@ pub struct Opened {
 // What putting a column hands back.
 pub struct Put {
     pub outcome: Outcome,
+    pub desk: Desk,
+}
+
+// What the verdict hands back.
+pub struct Judged {
+    pub verdict: usize,
     pub desk: Desk,
 }
 
@@ -122,10 +128,12 @@ impl Desk {
         }
     }
 
-    // The number of rows that are not values of a polynomial with at most as many coefficients as the row's length.
-    pub fn verdict(self) -> usize
+    // The number of rows that are not values of a polynomial with at most as many coefficients as the row's length. The desk is
+    // handed back as it was.
+    pub fn verdict(self) -> Judged
         requires { ⌜ Made self ⌝ }
-        ensures { λ r. ⌜ Verdict self r ⌝ }
+        ensures { λ r. ⌜ Judges self r ⌝ }
+        ensures { λ r. ⌜ Made (r .desk) ⌝ }
     {
         let degree = self.degree;
         let n = self.columns;
@@ -135,6 +143,10 @@ impl Desk {
         let array = self.array;
         let cells = r * n;
         let table = tables::lend(degree);
-        fit::misfits(&table, degree, &points[..n], &lengths[..r], &array[..cells])
+        let verdict = fit::misfits(&table, degree, &points[..n], &lengths[..r], &array[..cells]);
+        Judged {
+            verdict: verdict,
+            desk: self,
+        }
     }
 }

@@ -17,8 +17,10 @@ use libc::STDIN_FILENO;
 use libc::STDOUT_FILENO;
 use mark::Outcome;
 
-fn show(outcome: Outcome, desk: Desk) -> bool
+// Writes the line of a call, and hands the desk back.
+fn show(outcome: Outcome, desk: Desk) -> Desk
     requires { ⌜ Made desk ⌝ }
+    ensures { λ r. ⌜ Made r ⌝ }
 {
     match outcome {
         Outcome::Done => io::write_all(STDOUT_FILENO, b"done"),
@@ -28,9 +30,11 @@ fn show(outcome: Outcome, desk: Desk) -> bool
         }
     }
     ;
+    let judged = desk.verdict();
     io::write_all(STDOUT_FILENO, b" ");
-    io::print_decimal(STDOUT_FILENO, desk.verdict() as u64);
-    io::write_all(STDOUT_FILENO, b"\n")
+    io::print_decimal(STDOUT_FILENO, judged.verdict as u64);
+    io::write_all(STDOUT_FILENO, b"\n");
+    judged.desk
 }
 
 // A number of two bytes.
@@ -59,14 +63,12 @@ fn step(desk: Desk, frame: &[u8]) -> Desk
         let opened = Desk::open(x, &frame[5..5 + n], &frame[25..25 + k]);
         let outcome = opened.outcome;
         let next = opened.desk;
-        show(outcome, next);
-        return next;
+        return show(outcome, next);
     }
     let put = desk.put(x as usize, &frame[5..5 + n]);
     let outcome = put.outcome;
     let next = put.desk;
-    show(outcome, next);
-    next
+    show(outcome, next)
 }
 
 fn main() {

@@ -32,9 +32,7 @@ returns-2 c = let given = code (c .before .before) in
     (kept, made-open given kept)
 
 pub open-spec : {M : Type 1} → statement M
-open-spec =
-    tie.close
-    (tie.spec
+open-spec = tie.close (tie.spec
     (λ c κs. search needs) (λ c. search needs) (λ c. search needs) (λ c κs. search needs)
     returns
     zero-requires-2

@@ -41,11 +41,7 @@ returns : tie.Need-returns Inv-loop μ-loop
 returns c = writing-end (c .before .loop .inv) (omega (arith, count (c .before .before), c .loop-test .left))
 
 pub place-spec : {M : Type 1} → statement M
-place-spec =
-    tie.close
-    (tie.spec
-    Inv-loop
-    μ-loop
+place-spec = tie.close (tie.spec Inv-loop μ-loop
     (λ c. writing-begin _ _ _)
     (λ c. search needs)
     (λ c. omega (arith, row c, start c .pre .column))

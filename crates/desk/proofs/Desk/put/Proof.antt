@@ -42,9 +42,7 @@ returns-2 c = let at = c .before .before .before .before in
     (kept, made-put (s .self) (s .column) (s .symbols .now) (start at .pre) kept)
 
 pub put-spec : {M : Type 1} → statement M
-put-spec =
-    tie.close
-    (tie.spec
+put-spec = tie.close (tie.spec
     (λ c κs. search needs)
     returns
     (λ c. search needs)

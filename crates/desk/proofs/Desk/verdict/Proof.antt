@@ -1,6 +1,6 @@
--- `Desk::verdict` is the number of rows that do not fit.
+-- `Desk::verdict` hands back the number of rows that do not fit, and the desk as it was.
 -- Assumes nothing.
-use mathlib.Core.Path.{sym}
+use mathlib.Core.Path.{refl, sym}
 use native.Mathlib.Omega.{arith}
 use lib.Seq.{length-take-le}
 use Rattle.desk.proofs.Sound.{Sound, sound}
@@ -32,10 +32,11 @@ misfits-requires c κs = let t = lent (c .before) in
       array = h .array;
     }
 
+returns : tie.Need-returns
+returns c = let s = start (copied (lent (c .before .before))) in (record { number = c .misfits .ensures; kept = refl }, s .pre)
+
 pub verdict-spec : {M : Type 1} → statement M
-verdict-spec =
-    tie.close
-    (tie.spec
+verdict-spec = tie.close (tie.spec
     (λ c. omega (arith, held c .cells))
     (λ c κs. held c .degree)
     (λ c. let h = held (copied c) in omega (arith, h .points-size, h .most-columns))
@@ -47,4 +48,4 @@ verdict-spec =
     let h = held s in
     sym (length-take-le _ (start s .args .self .array) (omega (arith, h .array-size, h .cells))))
     misfits-requires
-    (λ c. search needs))
+    returns)

@@ -45,9 +45,7 @@ unfolding first
 returns-6 c = sym (rest4 (c .before .before) ∙ miss 6 _ [] (sym (c .before .bad-points .ensures) ∙ c .if5 .left))
 
 pub open-refusal-spec : {M : Type 1} → statement M
-open-refusal-spec =
-    tie.close
-    (tie.spec
+open-refusal-spec = tie.close (tie.spec
     (λ c κs. search needs)
     (λ c. sym (hit _ _ _ (sym (c .before .bad-degree .ensures) ∙ c .if1 .taken)))
     (λ c κs. search needs)

@@ -47,9 +47,7 @@ module _ (c : tie.After-some-outside) where
       (copied .store .ensures) (reduced .reduce .ensures) refl)
 
 pub misfit-spec : {M : Type 1} → statement M
-misfit-spec =
-    tie.close
-    (tie.spec
+misfit-spec = tie.close (tie.spec
     (λ c. search needs) (λ c κs. search needs) (λ c. search needs)
     reduce-requires
     (λ c. search needs) (λ c. search needs) (λ c. search needs) (λ c κs. search needs)

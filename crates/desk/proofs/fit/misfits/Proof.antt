@@ -28,9 +28,7 @@ rows-misfits-requires c κs = let all = c .before .before in
     record { given = start k .pre; inverses = rw (k .largest .ensures) at (all .all-inverses .ensures) }
 
 pub misfits-spec : {M : Type 1} → statement M
-misfits-spec =
-    tie.close
-    (tie.spec
+misfits-spec = tie.close (tie.spec
     (λ c κs. search needs) (λ c. search needs)
     all-inverses-requires
     (λ c. search needs)

@@ -34,11 +34,7 @@ loop-again c = let w = c .before .before in
     counting-again (turn w .before .loop .inv) (turn w .loop-test .taken) (rw (w .wide .ensures) at (c .misfit .ensures))
 
 pub rows-misfits-spec : {M : Type 1} → statement M
-rows-misfits-spec =
-    tie.close
-    (tie.spec
-    Inv-loop
-    μ-loop
+rows-misfits-spec = tie.close (tie.spec Inv-loop μ-loop
     (λ c. counting-begin _ _ _ _)
     (λ c. search needs) (λ c κs. search needs)
     (λ c. omega (arith, row c))
