@@ -2,9 +2,10 @@
 --
 --   enough    the answer to the bytes at hand is the answer to all that is left, once there are as many as are wanted
 --   rest-of   where the record is whole, the next one begins behind the bytes at hand
+--   no-more   where no more bytes come than were wanted, no more are held than are then wanted
 -- Assumes nothing.
 use mathlib.Core.Path.{_≡_, refl, sym, ap, ap₂, _∙_}
-use mathlib.Core.Bool.{Bool, true, false, _||_, _&&_}
+use mathlib.Core.Bool.{Bool, true, false, cond, _||_, _&&_}
 use mathlib.Core.List.{List, [], _∷_, _++_}
 use Prim.Native.Nat.{ℕ, zero, suc, _+_, _-_, _*_, _≤_, _<_}
 use native.Mathlib.Decide.{decLt}
@@ -20,7 +21,7 @@ use Rattle.record.specs.Records.{begins, noMark, outOfRange, degreeIn, r
 use Rattle.record.specs.Records.{lengthsIn, limitIn, pointsIn, symbolsIn}
 use Rattle.record.specs.Promises.{recordIn, fresh, AnswersBy, Answers}
 use Rattle.record.specs.declared.Reply.{Reply}
-use Rattle.record.proofs.Heads.{wants-mark, wants-head, wants-all}
+use Rattle.record.proofs.Heads.{wants-mark, wants-no-more, wants-head, wants-head-alone, wants-all}
 use Rattle.record.proofs.Wholes.{whole-of}
 
 same-mark : (b rest : List ℕ) → 2 ≤ length b → noMark (b ++ rest) ≡ noMark b
@@ -56,6 +57,10 @@ module _ (b rest : List ℕ) (five : 5 ≤ length b) where
   same-size : sizeIn (b ++ rest) ≡ sizeIn b
   unfolding sizeIn
   same-size = ap₂ (λ (r n : ℕ). 6 + r + n + r * n) (at 3 (omega arith)) (at 4 (omega arith))
+
+  same-range : outOfRange (b ++ rest) ≡ outOfRange b
+  unfolding outOfRange
+  same-range = ap₂ (λ (r n : ℕ). outside 1 4 r || outside 1 96 n) (at 3 (omega arith)) (at 4 (omega arith))
 
   same-stop : (outOfRange b ≡ false → sizeIn b ≤ length b) → stopOf (b ++ rest) ≡ stopOf b
   unfolding outOfRange
@@ -148,3 +153,46 @@ rest-of b rest z e =
   where
     no-mark : noMark b ≡ false
     no-mark = by-cases (noMark b) (λ m. absurd (omega (arith, z, stop-twelve b (omega arith) b m))) (λ m. m)
+
+by-tests : (x y : Bool) (s : ℕ) → 5 ≤ s → (2 ≤ cond x 2 (cond y 5 s)) × (5 ≤ cond y 5 s)
+by-tests true true s h = (omega arith, omega arith)
+by-tests true false s h = (omega arith, h)
+by-tests false true s h = (omega arith, omega arith)
+by-tests false false s h = (omega arith, h)
+
+wants-two : (b : List ℕ) → 2 ≤ wanted b
+unfolding wanted sizeIn
+wants-two b = by-tests (ltb (length b) 2 || noMark b) (ltb (length b) 5 || outOfRange b) (sizeIn b) (omega arith) .0
+
+wants-five : (b : List ℕ) → 2 ≤ length b → noMark b ≡ false → 5 ≤ wanted b
+unfolding wanted sizeIn
+wants-five b h m =
+    rw (le-ltb (length b) 2 h, m) (by-tests false (ltb (length b) 5 || outOfRange b) (sizeIn b) (omega arith) .1)
+
+pub no-more : (b more : List ℕ) → length (b ++ more) ≤ wanted b → length (b ++ more) ≤ wanted (b ++ more)
+no-more b more h = go (decLt (length b) 2)
+  where
+    size : length (b ++ more) ≡ length b + length more
+    size = length-append b more
+
+    marked : 2 ≤ length b → noMark b ≡ false → Dec (length b < 5) → length (b ++ more) ≤ wanted (b ++ more)
+    marked two m (yes l) =
+        omega (arith, wants-five (b ++ more) (omega (arith, size)) (same-mark b more two ∙ m), wants-head b two m l)
+    marked two m (no l) =
+        let five : 5 ≤ length b = omega arith in
+        let m′ = same-mark b more two ∙ m in
+        by-cases (outOfRange b)
+        (λ o. omega (arith, wants-five (b ++ more) (omega (arith, size)) m′, wants-head-alone b m five o))
+        (λ o. omega (
+          arith,
+          wants-all b m five o,
+          same-size b more five,
+          wants-all (b ++ more) m′ (omega (arith, size)) (same-range b more five ∙ o),
+        ))
+
+    go : Dec (length b < 2) → length (b ++ more) ≤ wanted (b ++ more)
+    go (yes l) = omega (arith, wants-two (b ++ more), wants-mark b l)
+    go (no l) =
+        by-cases (noMark b)
+        (λ m. omega (arith, wants-two (b ++ more), wants-no-more b (omega arith) m))
+        (λ m. marked (omega arith) m (decLt (length b) 5))

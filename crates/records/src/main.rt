@@ -2,6 +2,7 @@
 // ends at the end of the input, after a line that stops the reading, and where a write fails.
 ghost use Prim.Native.Nat.{_≤_};
 ghost use lib.ListN.{length};
+ghost use Rattle.records.specs.Held.{Held};
 use libc::STDIN_FILENO;
 use libc::STDOUT_FILENO;
 use record::Reply;
@@ -10,7 +11,7 @@ use record::Reply;
 // are wanted where the input ends.
 fn next_record(held: &mut [u8]) -> usize
     requires { ⌜ 490 ≤ length (now held) ⌝ }
-    ensures { λ r. ⌜ r ≤ 490 ⌝ }
+    ensures { λ r. ⌜ Held (now (held .exit)) r ⌝ }
 {
     let mut got = 0;
     loop {

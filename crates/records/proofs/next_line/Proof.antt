@@ -15,29 +15,18 @@ onward : (c : tie.After-n2) → Counts (c .n2 .given .0 .0) (c .before .before .
 onward c = rw (c .n2 .given .1) at (c .before .before .answer .ensures .1)
 
 slice-aggregate-answer : tie.Need-slice-aggregate-answer
-slice-aggregate-answer c = sym (length-take-le _ (c .before .before .before .next-record .last .0) (omega (arith, c .before .before .before .next-record .ensures, c .before .before .before .next-record .kept)))
-
-array-share-prefix-line : tie.Need-array-share-prefix-line
-array-share-prefix-line c = stopped (c .before) .0
-
-slice-aggregate-write-all : tie.Need-slice-aggregate-write-all
-slice-aggregate-write-all c = stopped (c .before .before) .1
-
-array-share-prefix-line-2 : tie.Need-array-share-prefix-line-2
-array-share-prefix-line-2 c = onward (c .before) .0
-
-slice-aggregate-write-all-2 : tie.Need-slice-aggregate-write-all-2
-slice-aggregate-write-all-2 c = onward (c .before .before) .1
+slice-aggregate-answer c = let r = c .before .before .before .next-record in
+    sym (length-take-le _ (r .last .0) (omega (arith, r .ensures .most, r .kept)))
 
 pub next-line-spec : {M : Type 1} → statement M
 next-line-spec = tie.close (tie.spec
     (λ c κs. search needs) (λ c. search needs)
     slice-aggregate-answer
     (λ c κs. search needs) (λ c. search needs) (λ c. search needs)
-    array-share-prefix-line
-    slice-aggregate-write-all
+    (λ c. stopped (c .before) .0)
+    (λ c. stopped (c .before .before) .1)
     (λ c κs. search needs) (λ c. search needs)
-    array-share-prefix-line-2
-    slice-aggregate-write-all-2
+    (λ c. onward (c .before) .0)
+    (λ c. onward (c .before .before) .1)
     (λ c κs. search needs) (λ c. search needs) (λ c. search needs) (λ c. search needs) (λ c. search needs)
     (λ c. search needs) (λ c. search needs))

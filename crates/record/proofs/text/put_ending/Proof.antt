@@ -7,7 +7,7 @@ use borrow.Author.Needs.{needs}
 use Rattle.record.proofs.text.put_ending.Statement.{statement}
 use Rattle.record.proofs.text.put_ending.Tie as tie
 
--- where the ending is matched, from the fields of each
+-- where the text of each ending begins
 abbrev refused : tie.After-put-field → tie.After-ending
 refused c = c .before .before .before .before
 
