@@ -19,7 +19,7 @@ use Rattle.mark.proofs.Messages.{ReducedRows, code-array-exactly}
 use Rattle.desk.specs.Desk.{codeOf, arrayOf, Made}
 use Rattle.desk.specs.Verdict.{IsRow, Misfits, none, fits, Verdict}
 use Rattle.desk.specs.declared.Desk.{Desk}
-use Rattle.desk.proofs.Sound.{sound}
+use Rattle.desk.proofs.Sound.{sound, is-array}
 
 first-row : {d k : ℕ} {xs ks a : List ℕ} {P Q : Type 0} → IsRow d xs k (take (length xs) a) ↔ P → Misfits d xs ks (drop (length xs) a) 0 ↔ Q
     → Misfits d xs (k ∷ ks) a 0 ↔ (P × Q)
@@ -45,7 +45,6 @@ module _ {c : Code} (p : Proper c) where
 
 pub no-misfit : {d : Desk} → Made d → Verdict d 0 ↔ CodeArray (codeOf d) (arrayOf d)
 no-misfit {d} m =
-    let h = sound m in
-    Iff·trans
-    (rows-reduced (h .proper) (codeOf d .lengths) (arrayOf d) (h .proper .lengths) (h .array .count) (h .array .symbols))
-    (Iff·symm (code-array-exactly (h .proper) (h .array)))
+    let p = sound m .frame .proper in
+    let a = is-array (sound m) in
+    Iff·trans (rows-reduced p (codeOf d .lengths) (arrayOf d) (p .lengths) (a .count) (a .symbols)) (Iff·symm (code-array-exactly p a))

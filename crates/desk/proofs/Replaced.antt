@@ -35,8 +35,8 @@ module _ (d : Desk) (i : ℕ) (s : List ℕ) (m : Made d) (e : 0 ≡ first (putC
       let can = puttable d i s e in
       ap (λ (w : Desk). getD (arrayOf w) (l * d .columns + i) 0) next
       ∙ getD-take (d .rows * d .columns) (placed d i s .array) (l * d .columns + i) 0 (cell (d .rows) (d .columns) l i q (can .column))
-      ∙ column-there (d .columns) i s (d .array) (omega (arith, h .some-columns))
-      (λ k g. omega (arith, cell (d .rows) (d .columns) k i (omega (arith, can .count)) (can .column), h .cells, h .array-size))
+      ∙ column-there (d .columns) i s (d .array) (omega (arith, h .frame .some-columns))
+      (λ k g. omega (arith, cell (d .rows) (d .columns) k i (omega (arith, can .count)) (can .column), h .frame .cells, h .array-size))
       l
       (omega (arith, can .count))
 
@@ -54,4 +54,4 @@ module _ (d : Desk) (i : ℕ) (s : List ℕ) (m : Made d) (e : 0 ≡ first (putC
   others-kept j b n =
       agree-exactly (rows (codeOf d)) (columns (codeOf d)) j (arrayOf d) (arrayOf after) .1
       (agree-at (rows (codeOf d)) (columns (codeOf d)) j (arrayOf d) (arrayOf after) .1
-      (rw (sound m .row-count, sound m .column-count) (same j b n)))
+      (rw (sound m .frame .row-count, sound m .frame .column-count) (same j b n)))

@@ -1,8 +1,10 @@
 -- What holds of a desk that came from opening and putting.
 --
 --   ZeroFrom n l     the places of l from n on are zero
---   Sound d          the code of d is proper and within the limits of a desk, its array is one of the code, and its places that
---                    the code does not use are zero
+--   Framed d n r xs ks    a proper code within the limits of a desk; the places of the points xs and the lengths ks that it does
+--                         not use are zero
+--   Sound d          the desk has such a code; its array is symbols, and zero in the places that the code does not use
+--   is-array         the array of a sound desk is one of its code
 --   Passed c         what the checks of opening leave; passed, from them
 --   Puttable d i s   what the checks of putting leave; puttable, from them
 --   code-zero        the code of the desk that a code was opened with
@@ -37,30 +39,31 @@ use Rattle.desk.proofs.Columns.{length-column, all-column, column-other
 abbrev pub ZeroFrom : ℕ → List ℕ → Type 0
 ZeroFrom n l = (i : ℕ) → n ≤ i → getD l i 0 ≡ 0
 
+pub record Framed (d n r : ℕ) (xs ks : List ℕ) : Type 0 where
+  pub degree : badDegree d ≡ false
+  pub some-rows : 1 ≤ r
+  pub most-rows : r ≤ 4
+  pub some-columns : 1 ≤ n
+  pub most-columns : n ≤ 16
+  pub cells : r * n ≤ 64
+  pub points-size : length xs ≡ 16
+  pub lengths-size : length ks ≡ 4
+  pub column-count : length (take n xs) ≡ n
+  pub row-count : length (take r ks) ≡ r
+  pub proper : Proper (mark.codeOf d (take n xs) (take r ks))
+  pub unused-points : ZeroFrom n xs
+  pub unused-lengths : ZeroFrom r ks
+
 pub record Sound (d : Desk) : Type 0 where
-  pub degree : badDegree (d .degree) ≡ false
-  pub some-rows : 1 ≤ d .rows
-  pub most-rows : d .rows ≤ 4
-  pub some-columns : 1 ≤ d .columns
-  pub most-columns : d .columns ≤ 16
-  pub cells : d .rows * d .columns ≤ 64
-  pub points-size : length (d .points) ≡ 16
-  pub lengths-size : length (d .lengths) ≡ 4
+  pub frame : Framed (d .degree) (d .columns) (d .rows) (d .points) (d .lengths)
   pub array-size : length (d .array) ≡ 64
-  pub column-count : columns (codeOf d) ≡ d .columns
-  pub row-count : rows (codeOf d) ≡ d .rows
-  pub proper : Proper (codeOf d)
   pub symbols : All (IsSymbol (d .degree)) (d .array)
-  pub array : IsArray (codeOf d) (arrayOf d)
-  pub unused-points : ZeroFrom (d .columns) (d .points)
-  pub unused-lengths : ZeroFrom (d .rows) (d .lengths)
   pub unused-places : ZeroFrom (d .rows * d .columns) (d .array)
 
-is-array : (d : Desk) → columns (codeOf d) ≡ d .columns → rows (codeOf d) ≡ d .rows → d .rows * d .columns ≤ 64
-    → length (d .array) ≡ 64 → All (IsSymbol (d .degree)) (d .array) → IsArray (codeOf d) (arrayOf d)
-is-array d n r cells size s = record {
-  count = rw (n, r) (length-take-le (d .rows * d .columns) (d .array) (omega arith));
-  symbols = all-take (IsSymbol (d .degree)) (d .rows * d .columns) (d .array) s;
+pub is-array : {d : Desk} → Sound d → IsArray (codeOf d) (arrayOf d)
+is-array {d} h = let f = h .frame in record {
+  count = rw (f .column-count, f .row-count) (length-take-le (d .rows * d .columns) (d .array) (omega (arith, h .array-size)));
+  symbols = all-take (IsSymbol (d .degree)) (d .rows * d .columns) (d .array) (h .symbols);
 }
 
 -- ---- opening
@@ -118,31 +121,26 @@ pub code-zero : (c : Code) → Passed c → codeOf (zeroDesk c) ≡ c
 code-zero c p = ap₂ (mark.codeOf (c .degree)) (front 16 (c .points) (p .most-columns)) (front 4 (c .lengths) (p .most-rows))
 
 sound-zero : (c : Code) → Passed c → Sound (zeroDesk c)
-sound-zero c p =
-    let same = code-zero c p in
-    let n : columns (codeOf (zeroDesk c)) ≡ columns c = ap columns same in
-    let r : rows (codeOf (zeroDesk c)) ≡ rows c = ap rows same in
-    let cells : rows c * columns c ≤ 64 = mul-le-mul (p .most-rows) (p .most-columns) in
-    let symbols = symbols-zeros (c .degree) 64 in
-    record {
-      degree = p .degree;
-      some-rows = p .some-rows;
-      most-rows = p .most-rows;
-      some-columns = p .some-columns;
-      most-columns = p .most-columns;
-      cells = cells;
-      points-size = length-lay 0 (c .points) (zeros 16) ∙ length-zeros 16;
-      lengths-size = length-lay 0 (c .lengths) (zeros 4) ∙ length-zeros 4;
-      array-size = length-zeros 64;
-      column-count = n;
-      row-count = r;
-      proper = subst Proper (sym same) (p .proper);
-      symbols = symbols;
-      array = is-array (zeroDesk c) n r cells (length-zeros 64) symbols;
-      unused-points = zero-behind 16 (c .points);
-      unused-lengths = zero-behind 4 (c .lengths);
-      unused-places = λ i h. zeros-zero 64 i;
-    }
+sound-zero c p = let same = code-zero c p in record {
+  frame = record {
+    degree = p .degree;
+    some-rows = p .some-rows;
+    most-rows = p .most-rows;
+    some-columns = p .some-columns;
+    most-columns = p .most-columns;
+    cells = mul-le-mul (p .most-rows) (p .most-columns);
+    points-size = length-lay 0 (c .points) (zeros 16) ∙ length-zeros 16;
+    lengths-size = length-lay 0 (c .lengths) (zeros 4) ∙ length-zeros 4;
+    column-count = ap columns same;
+    row-count = ap rows same;
+    proper = subst Proper (sym same) (p .proper);
+    unused-points = zero-behind 16 (c .points);
+    unused-lengths = zero-behind 4 (c .lengths);
+  };
+  array-size = length-zeros 64;
+  symbols = symbols-zeros (c .degree) 64;
+  unused-places = λ i h. zeros-zero 64 i;
+}
 
 -- the desk that a refused opening hands over could itself be opened
 spare-passed : Passed spareCode
@@ -169,27 +167,12 @@ puttable d i s e =
 
 sound-placed : (d : Desk) (i : ℕ) (s : List ℕ) → Sound d → Puttable d i s → Sound (placed d i s)
 sound-placed d i s h p =
-    let size : length (placed d i s .array) ≡ 64 = length-column (d .columns) i s (d .array) ∙ h .array-size in
-    let symbols = all-column (d .columns) (IsSymbol (d .degree)) i s (d .array) (p .symbols) (h .symbols) in
     let inside : (l : ℕ) → l < length s → l * d .columns + i < d .rows * d .columns =
     λ l q. cell (d .rows) (d .columns) l i (omega (arith, p .count)) (p .column) in
     record {
-      degree = h .degree;
-      some-rows = h .some-rows;
-      most-rows = h .most-rows;
-      some-columns = h .some-columns;
-      most-columns = h .most-columns;
-      cells = h .cells;
-      points-size = h .points-size;
-      lengths-size = h .lengths-size;
-      array-size = size;
-      column-count = h .column-count;
-      row-count = h .row-count;
-      proper = h .proper;
-      symbols = symbols;
-      array = is-array (placed d i s) (h .column-count) (h .row-count) (h .cells) size symbols;
-      unused-points = h .unused-points;
-      unused-lengths = h .unused-lengths;
+      frame = h .frame;
+      array-size = length-column (d .columns) i s (d .array) ∙ h .array-size;
+      symbols = all-column (d .columns) (IsSymbol (d .degree)) i s (d .array) (p .symbols) (h .symbols);
       unused-places = λ j g. column-other (d .columns) i s (d .array) j (λ l q e. omega (arith, inside l q)) ∙ h .unused-places j g;
     }
 

@@ -54,18 +54,6 @@ module _ {d : ℕ} {xs : List ℕ} where
   one-more {a = a} (fits-not p none) r =
       rw (suc-add, zero-add) (fits-not (rw (take-take (length xs) (length xs) a (le-refl _)) at p) r)
 
-  -- the rows before l were counted, and row l comes to u
-  counted : {ks a : List ℕ} (count l start : ℕ) {u : ℕ} → l < length ks
-      → ((w : ℕ) → Misfits d xs (drop l ks) (drop start a) w → Misfits d xs ks a (count + w))
-      → Misfits d xs (getD ks l 0 ∷ []) (take (start + length xs - start) (drop start a)) u
-      → (w : ℕ) → Misfits d xs (drop (l + 1) ks) (drop (start + length xs) a) w → Misfits d xs ks a (count + u + w)
-  counted {ks} {a} count l start {u} h so-far row w rest =
-      let all : start + length xs - start ≡ length xs = omega arith in
-      let here : Misfits d xs (getD ks l 0 ∷ []) (take (length xs) (drop start a)) u = rw all at row in
-      let others : Misfits d xs (drop (suc l) ks) (drop (length xs) (drop start a)) w =
-      rw (drop-drop (length xs) start a, ← add-one l) rest in
-      rw add-assoc (so-far (u + w) (rw (drop-cons ks l 0 h) (one-more here others)))
-
 pub record Counting (d : ℕ) (xs ks a : List ℕ) (count start l : ℕ) : Type 0 where
   pub within : l ≤ length ks
   pub place : start ≡ l * length xs
@@ -83,12 +71,18 @@ counting-begin d xs ks a = record {
 module _ {d : ℕ} {xs ks a : List ℕ} {count start l : ℕ} (c : Counting d xs ks a count start l) where
   pub counting-again : {u : ℕ} → l < length ks → Misfits d xs (getD ks l 0 ∷ []) (take (start + length xs - start) (drop start a)) u
       → Counting d xs ks a (count + u) (start + length xs) (l + 1)
-  counting-again h row = record {
-    within = omega arith;
-    place = rw add-one (omega (arith, suc-mul l (length xs), c .place));
-    few = omega (arith, at-most row);
-    so-far = counted count l start h (c .so-far) row;
-  }
+  counting-again {u} h row =
+      let all : start + length xs - start ≡ length xs = omega arith in
+      let here : Misfits d xs (getD ks l 0 ∷ []) (take (length xs) (drop start a)) u = rw all at row in
+      record {
+        within = omega arith;
+        place = rw add-one (omega (arith, suc-mul l (length xs), c .place));
+        few = omega (arith, at-most row);
+        so-far = λ w rest.
+            let others : Misfits d xs (drop (suc l) ks) (drop (length xs) (drop start a)) w =
+            rw (drop-drop (length xs) start a, ← add-one l) rest in
+            rw add-assoc (c .so-far (u + w) (rw (drop-cons ks l 0 h) (one-more here others)));
+      }
 
   pub counting-end : length ks ≤ l → Misfits d xs ks a count
   counting-end h = rw add-zero at (c .so-far 0 (rw (drop-of-length-le ks h) none))

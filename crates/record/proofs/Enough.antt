@@ -7,21 +7,20 @@
 use mathlib.Core.Path.{_≡_, refl, sym, ap, ap₂, _∙_}
 use mathlib.Core.Bool.{Bool, true, false, cond, _||_, _&&_}
 use mathlib.Core.List.{List, [], _∷_, _++_}
-use Prim.Native.Nat.{ℕ, zero, suc, _+_, _-_, _*_, _≤_, _<_}
-use native.Mathlib.Decide.{decLt}
+use Prim.Native.Nat.{ℕ, zero, suc, _+_, _*_, _≤_, _<_}
 use native.Mathlib.Omega.{arith}
 use lib.Dec.{ltb}
 use lib.ListN.{length, getD, take, drop, length-append, length-drop, List·getD-append}
 use lib.Seq.{take-append-le, drop-append-le, drop-append-seam}
-use borrow.Author.Tests.{le-leb, le-ltb}
+use borrow.Author.Tests.{le-leb, le-ltb, ltb-false}
 use Rattle.refusal.specs.Refusal.{Check, _when_, first, badDegree, outside}
-use Rattle.refusal.proofs.Laws.{hit}
+use Rattle.refusal.proofs.Laws.{neither, hit}
 use Rattle.joint.specs.Promises.{Given}
 use Rattle.record.specs.Records.{begins, noMark, outOfRange, degreeIn, rowsIn, columnsIn, sizeIn, stopOf, wanted}
 use Rattle.record.specs.Records.{lengthsIn, limitIn, pointsIn, symbolsIn}
 use Rattle.record.specs.Promises.{recordIn, fresh, AnswersBy, Answers}
 use Rattle.record.specs.declared.Reply.{Reply}
-use Rattle.record.proofs.Heads.{wants-mark, wants-no-more, wants-head, wants-head-alone, wants-all}
+use Rattle.record.proofs.Heads.{wants-all}
 use Rattle.record.proofs.Wholes.{whole-of}
 
 same-mark : (b rest : List ℕ) → 2 ≤ length b → noMark (b ++ rest) ≡ noMark b
@@ -101,25 +100,28 @@ by-cases : {P : Type 0} (x : Bool) → (x ≡ true → P) → (x ≡ false → P
 by-cases true t f = t refl
 by-cases false t f = f refl
 
+by-tests : (x y : Bool) (s : ℕ) → 5 ≤ s → (2 ≤ cond x 2 (cond y 5 s)) × (5 ≤ cond y 5 s)
+by-tests true true s h = (omega arith, omega arith)
+by-tests true false s h = (omega arith, h)
+by-tests false true s h = (omega arith, omega arith)
+by-tests false false s h = (omega arith, h)
+
+wants-two : (b : List ℕ) → 2 ≤ wanted b
+unfolding wanted sizeIn
+wants-two b = by-tests (ltb (length b) 2 || noMark b) (ltb (length b) 5 || outOfRange b) (sizeIn b) (omega arith) .0
+
+wants-five : (b : List ℕ) → 2 ≤ length b → noMark b ≡ false → 5 ≤ wanted b
+unfolding wanted sizeIn
+wants-five b h m =
+    rw (le-ltb (length b) 2 h, m) (by-tests false (ltb (length b) 5 || outOfRange b) (sizeIn b) (omega arith) .1)
+
 -- as many bytes as are wanted, with the mark, are five, and the whole record where r and n are in range
 module _ (b : List ℕ) (h : wanted b ≤ length b) where
   two : 2 ≤ length b
-  two = go (decLt (length b) 2)
-    where
-      go : Dec (length b < 2) → 2 ≤ length b
-      go (yes l) = omega (arith, wants-mark b l)
-      go (no l) = omega arith
+  two = omega (arith, wants-two b)
 
-  module _ (m : noMark b ≡ false) where
-    five : 5 ≤ length b
-    five = go (decLt (length b) 5)
-      where
-        go : Dec (length b < 5) → 5 ≤ length b
-        go (yes l) = omega (arith, wants-head b two m l)
-        go (no l) = omega arith
-
-    complete : outOfRange b ≡ false → sizeIn b ≤ length b
-    complete o = omega (arith, wants-all b m five o)
+  five : noMark b ≡ false → 5 ≤ length b
+  five m = omega (arith, wants-five b two m)
 
   stop-twelve : (l : List ℕ) → noMark l ≡ true → stopOf l ≡ 12
   unfolding stopOf
@@ -129,7 +131,10 @@ module _ (b : List ℕ) (h : wanted b ≤ length b) where
   same-answer rest =
       by-cases (noMark b)
       (λ m. (stop-twelve (b ++ rest) (same-mark b rest two ∙ m) ∙ sym (stop-twelve b m), λ z. absurd (omega (arith, stop-twelve b m))))
-      (λ m. (same-stop b rest (five m) (complete m), λ z. same-record b rest (five m) fresh (whole-of b z .complete)))
+      (λ m. (
+        same-stop b rest (five m) (λ o. omega (arith, wants-all b m (five m) o)),
+        λ z. same-record b rest (five m) fresh (whole-of b z .complete),
+      ))
 
 same-by : (s number : ℕ) (g g′ : Given) (lent : List ℕ) (r : Reply) (left : List ℕ) → (s ≡ 0 → g ≡ g′)
     → _≡_ {A = Type 0} (AnswersBy s number g lent r left) (AnswersBy s number g′ lent r left)
@@ -154,45 +159,18 @@ rest-of b rest z e =
     no-mark : noMark b ≡ false
     no-mark = by-cases (noMark b) (λ m. absurd (omega (arith, z, stop-twelve b (omega arith) b m))) (λ m. m)
 
-by-tests : (x y : Bool) (s : ℕ) → 5 ≤ s → (2 ≤ cond x 2 (cond y 5 s)) × (5 ≤ cond y 5 s)
-by-tests true true s h = (omega arith, omega arith)
-by-tests true false s h = (omega arith, h)
-by-tests false true s h = (omega arith, omega arith)
-by-tests false false s h = (omega arith, h)
-
-wants-two : (b : List ℕ) → 2 ≤ wanted b
-unfolding wanted sizeIn
-wants-two b = by-tests (ltb (length b) 2 || noMark b) (ltb (length b) 5 || outOfRange b) (sizeIn b) (omega arith) .0
-
-wants-five : (b : List ℕ) → 2 ≤ length b → noMark b ≡ false → 5 ≤ wanted b
-unfolding wanted sizeIn
-wants-five b h m =
-    rw (le-ltb (length b) 2 h, m) (by-tests false (ltb (length b) 5 || outOfRange b) (sizeIn b) (omega arith) .1)
-
 pub no-more : (b more : List ℕ) → length (b ++ more) ≤ wanted b → length (b ++ more) ≤ wanted (b ++ more)
-no-more b more h = go (decLt (length b) 2)
-  where
-    size : length (b ++ more) ≡ length b + length more
-    size = length-append b more
-
-    marked : 2 ≤ length b → noMark b ≡ false → Dec (length b < 5) → length (b ++ more) ≤ wanted (b ++ more)
-    marked two m (yes l) =
-        omega (arith, wants-five (b ++ more) (omega (arith, size)) (same-mark b more two ∙ m), wants-head b two m l)
-    marked two m (no l) =
-        let five : 5 ≤ length b = omega arith in
-        let m′ = same-mark b more two ∙ m in
-        by-cases (outOfRange b)
-        (λ o. omega (arith, wants-five (b ++ more) (omega (arith, size)) m′, wants-head-alone b m five o))
-        (λ o. omega (
-          arith,
-          wants-all b m five o,
-          same-size b more five,
-          wants-all (b ++ more) m′ (omega (arith, size)) (same-range b more five ∙ o),
-        ))
-
-    go : Dec (length b < 2) → length (b ++ more) ≤ wanted (b ++ more)
-    go (yes l) = omega (arith, wants-two (b ++ more), wants-mark b l)
-    go (no l) =
-        by-cases (noMark b)
-        (λ m. omega (arith, wants-two (b ++ more), wants-no-more b (omega arith) m))
-        (λ m. marked (omega arith) m (decLt (length b) 5))
+unfolding wanted
+no-more b more h =
+    let size : length (b ++ more) ≡ length b + length more = length-append b more in
+    by-cases (ltb (length b) 2 || noMark b)
+    (λ e. let w : wanted b ≡ 2 = rw e in omega (arith, wants-two (b ++ more)))
+    (λ e. let p = neither _ _ e in
+    let two = ltb-false (length b) 2 (p .0) in
+    let m = same-mark b more two ∙ p .1 in
+    by-cases (ltb (length b) 5 || outOfRange b)
+    (λ o. let w : wanted b ≡ 5 = rw (e, o) in omega (arith, wants-five (b ++ more) (omega arith) m))
+    (λ o. let q = neither _ _ o in
+    let five = ltb-false (length b) 5 (q .0) in
+    let w = wants-all (b ++ more) m (omega arith) (same-range b more five ∙ q .1) in
+    omega (arith, w, wants-all b (p .1) five (q .1), same-size b more five)))

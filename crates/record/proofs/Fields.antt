@@ -1,5 +1,6 @@
 -- The fields of a line, as they are written.
 --
+--   puts-then         two texts put one behind the other are the two in one
 --   Wrong out₀ at fs out end gap i    the loop over the flags: what is left to write completes the whole
 --   wrong-begin, wrong-skip, wrong-put, wrong-end    its turns
 --   followed-short    columns and what stands before each take at most three bytes each
@@ -21,7 +22,12 @@ use Rattle.ending.specs.declared.Ending.the-variants.{Nothing}
 use Rattle.record.specs.Lines.{ascii, decimal, word, detail, wrongFrom, wrongColumns, commas, joined, lineOf}
 use Rattle.record.specs.Working.{Puts, PutsWithin, Room, followed, fieldsOf}
 use Rattle.record.proofs.Decimals.{decimal-short}
-use Rattle.record.proofs.Layouts.{puts-then}
+
+pub puts-then : (lent : List ℕ) (at : ℕ) (v w : List ℕ) {mid left : List ℕ} {e r : ℕ} → at + length (v ++ w) ≤ length lent
+    → Puts lent at v mid e → Puts mid e w left r → Puts lent at (v ++ w) left r
+puts-then lent at v w {mid} {left} {e} {r} fits p q =
+    let h : left ≡ lay (at + length v) w (lay at v lent) = q .laid ∙ rw (p .laid, p .behind) in
+    record { laid = h ∙ lay-append at v w lent fits; behind = omega (arith, length-append v w) }
 
 right-column : (i f : ℕ) (fs : List ℕ) → f ≡ 0 → wrongFrom i (f ∷ fs) ≡ wrongFrom (suc i) fs
 unfolding wrongFrom
@@ -54,7 +60,7 @@ pub record Wrong (out₀ : List ℕ) (at : ℕ) (fs out : List ℕ) (end gap i :
 pub wrong-begin : (out : List ℕ) (at : ℕ) (fs : List ℕ) → Wrong out at fs out at 32 0
 wrong-begin out at fs = record { within = omega arith; size = refl; written = refl; ends = refl }
 
-module _ (out₀ : List ℕ) (at : ℕ) (fs out : List ℕ) (end gap i : ℕ) (w : Wrong out₀ at fs out end gap i) where
+module _ {out₀ : List ℕ} {at : ℕ} {fs out : List ℕ} {end gap i : ℕ} (w : Wrong out₀ at fs out end gap i) where
   pub wrong-skip : i < length fs → getD fs i 0 ≡ 0 → Wrong out₀ at fs out end gap (i + 1)
   wrong-skip h e =
       let same : rest fs i ≡ rest fs (i + 1) =

@@ -1,5 +1,4 @@
 pub mod Decimals
-pub mod Layouts
 pub mod Fields
 pub mod Heads
 pub mod Wholes

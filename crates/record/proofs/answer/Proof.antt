@@ -26,10 +26,6 @@ stopped c = c .before .before .before
 abbrev whole : tie.After-decode → tie.Else2
 whole c = c .before .before .before
 
-returns : tie.Need-returns
-returns c = let s = c .before .before .args in
-    (answers-end (s .number) (s .out .now) (s .bytes .now) (c .if1 .taken), (search needs, search needs))
-
 returns-2 : tie.Need-returns-2
 returns-2 c = let at = stopped c .before in
     let s = start at .args in
@@ -54,7 +50,8 @@ returns-3 c = let d = c .before in
 
 pub answer-spec : {M : Type 1} → statement M
 answer-spec = tie.close (tie.spec
-    returns
+    (λ c. let s = c .before .before .args in
+    (answers-end (s .number) (s .out .now) (s .bytes .now) (c .if1 .taken), (search needs, search needs)))
     (λ c κs. search needs) (λ c. search needs) (λ c κs. search needs)
     returns-2
     (λ c. search needs)

@@ -17,23 +17,14 @@ code c = let s = c .before .before .before .args in codeOf (s .degree) (s .point
 none : (c : tie.Else1) → 0 ≡ first (openChecks (code (c .before)))
 none c = sym (c .if1 .left) ∙ c .before .open-refusal .ensures
 
-returns : tie.Need-returns
-returns c = let some = c .before .before .before in
-    let given = code (some .before) in
-    let kept = opens-not given _ (some .before .open-refusal .ensures) (some .if1 .taken) (c .zero .ensures) in
-    (kept, made-open given kept)
-
-zero-requires-2 : tie.Need-zero-requires-2
-zero-requires-2 c κs = let p = passed (code (c .before)) (none c) in (p .most-columns, p .most-rows)
-
-returns-2 : tie.Need-returns-2
-returns-2 c = let given = code (c .before .before) in
-    let kept = opens given (none (c .before)) (c .zero2 .ensures) in
-    (kept, made-open given kept)
-
 pub open-spec : {M : Type 1} → statement M
 open-spec = tie.close (tie.spec
     (λ c κs. search needs) (λ c. search needs) (λ c. search needs) (λ c κs. search needs)
-    returns
-    zero-requires-2
-    returns-2)
+    (λ c. let some = c .before .before .before in
+    let given = code (some .before) in
+    let kept = opens-not given _ (some .before .open-refusal .ensures) (some .if1 .taken) (c .zero .ensures) in
+    (kept, made-open given kept))
+    (λ c κs. let p = passed (code (c .before)) (none c) in (p .most-columns, p .most-rows))
+    (λ c. let given = code (c .before .before) in
+    let kept = opens given (none (c .before)) (c .zero2 .ensures) in
+    (kept, made-open given kept)))

@@ -1,8 +1,7 @@
 -- `Desk::place` writes the symbols into the column, one row after the other.
 -- Assumes nothing.
 use mathlib.Core.Path.{_≡_, sym}
-use mathlib.Core.List.{List}
-use Prim.Native.Nat.{ℕ, _+_, _-_, _≤_}
+use Prim.Native.Nat.{_+_, _-_, _≤_}
 use native.Mathlib.Omega.{arith}
 use lib.ListN.{length, take}
 use lib.Seq.{length-take-le, getD-take}
@@ -31,15 +30,6 @@ module _ (c : tie.In-loop Inv-loop μ-loop) where
       let turn = c .before .loop in
       omega (arith, start .pre .cells, turn .inv .place, row-end (d .rows) (d .columns) (turn .l) (c .loop-test .taken))
 
-loop-again : tie.Need-loop-again Inv-loop μ-loop
-loop-again c = let s = start c .args in
-    let l = c .before .loop .l in
-    let here = c .loop-test .taken in
-    writing-again (c .before .loop .inv) _ (sym (getD-take (s .t1 .rows) (s .t3) l 0 here)) (omega (arith, count (start c), here))
-
-returns : tie.Need-returns Inv-loop μ-loop
-returns c = writing-end (c .before .loop .inv) (omega (arith, count (c .before .before), c .loop-test .left))
-
 pub place-spec : {M : Type 1} → statement M
 place-spec = tie.close (tie.spec Inv-loop μ-loop
     (λ c. writing-begin _ _ _)
@@ -48,5 +38,8 @@ place-spec = tie.close (tie.spec Inv-loop μ-loop
     (λ c. omega (arith, row c, start c .pre .column))
     (λ c. omega (arith, row c))
     (λ c. search needs) (λ c. search needs)
-    loop-again
-    returns)
+    (λ c. let s = start c .args in
+    let l = c .before .loop .l in
+    let here = c .loop-test .taken in
+    writing-again (c .before .loop .inv) _ (sym (getD-take (s .t1 .rows) (s .t3) l 0 here)) (omega (arith, count (start c), here)))
+    (λ c. writing-end (c .before .loop .inv) (omega (arith, count (c .before .before), c .loop-test .left))))

@@ -22,20 +22,10 @@ module _ (c : tie.Else1) where
   can : Puttable (start .args .self) (start .args .column) (start .args .symbols .now)
   can = puttable (start .args .self) (start .args .column) (start .args .symbols .now) none
 
-returns : tie.Need-returns
-returns c = let s = c .before .before .before in
-    let a = s .args in
-    (puts-not (a .self) (a .column) (a .symbols .now) _ (c .before .put-refusal .ensures) (c .if1 .taken), s .pre)
-
-place-requires : tie.Need-place-requires
-place-requires c κs = let at = c .before .before .before in
-    let h = sound (start at .pre) in
-    record { column = can at .column; most-rows = h .most-rows; cells = h .cells }
-
 returns-2 : tie.Need-returns-2
 returns-2 c = let at = c .before .before .before .before in
     let s = start at .args in
-    let few = sound (start at .pre) .most-rows in
+    let few = sound (start at .pre) .frame .most-rows in
     let copy = laid-front (s .symbols .now) _ (c .before .before .store .ensures) (can at .count) (omega arith) in
     let next = c .place .ensures ∙ ap (placed (s .self) (s .column)) copy in
     let kept = puts (s .self) (s .column) (s .symbols .now) (none at) next in
@@ -44,8 +34,12 @@ returns-2 c = let at = c .before .before .before .before in
 pub put-spec : {M : Type 1} → statement M
 put-spec = tie.close (tie.spec
     (λ c κs. search needs)
-    returns
+    (λ c. let s = c .before .before .before in
+    let a = s .args in
+    (puts-not (a .self) (a .column) (a .symbols .now) _ (c .before .put-refusal .ensures) (c .if1 .taken), s .pre))
     (λ c. search needs)
-    (λ c κs. omega (arith, can (c .before) .count, sound (start (c .before) .pre) .most-rows))
-    place-requires
+    (λ c κs. omega (arith, can (c .before) .count, sound (start (c .before) .pre) .frame .most-rows))
+    (λ c κs. let at = c .before .before .before in
+    let h = sound (start at .pre) .frame in
+    record { column = can at .column; most-rows = h .most-rows; cells = h .cells })
     returns-2)

@@ -3,8 +3,7 @@
 use mathlib.Core.Path.{refl, sym}
 use native.Mathlib.Omega.{arith}
 use lib.Seq.{length-take-le}
-use Rattle.desk.proofs.Sound.{Sound, sound}
-use borrow.Author.Needs.{needs}
+use Rattle.desk.proofs.Sound.{Sound, sound, is-array}
 use Rattle.desk.proofs.Desk.verdict.Statement.{statement}
 use Rattle.desk.proofs.Desk.verdict.Tie as tie
 
@@ -23,29 +22,26 @@ held c = sound (start c .pre)
 
 misfits-requires : tie.Need-misfits-requires
 misfits-requires c κs = let t = lent (c .before) in
-    let h = held (copied t) in record {
-      degree = h .degree;
+    let h = held (copied t) in
+    let f = h .frame in record {
+      degree = f .degree;
       table = t .before .lend .ensures;
-      most-columns = omega (arith, h .column-count, h .most-columns);
-      most-rows = omega (arith, h .row-count, h .most-rows);
-      proper = h .proper;
-      array = h .array;
+      most-columns = omega (arith, f .column-count, f .most-columns);
+      most-rows = omega (arith, f .row-count, f .most-rows);
+      proper = f .proper;
+      array = is-array h;
     }
-
-returns : tie.Need-returns
-returns c = let s = start (copied (lent (c .before .before))) in (record { number = c .misfits .ensures; kept = refl }, s .pre)
 
 pub verdict-spec : {M : Type 1} → statement M
 verdict-spec = tie.close (tie.spec
-    (λ c. omega (arith, held c .cells))
-    (λ c κs. held c .degree)
-    (λ c. let h = held (copied c) in omega (arith, h .points-size, h .most-columns))
-    (λ c. sym (held (copied (c .before)) .column-count))
-    (λ c. let h = held (copied (c .before)) in omega (arith, h .lengths-size, h .most-rows))
-    (λ c. sym (held (copied (lent c)) .row-count))
-    (λ c. let h = held (copied (lent c)) in omega (arith, h .array-size, h .cells))
+    (λ c. omega (arith, held c .frame .cells))
+    (λ c κs. held c .frame .degree)
+    (λ c. let f = held (copied c) .frame in omega (arith, f .points-size, f .most-columns))
+    (λ c. sym (held (copied (c .before)) .frame .column-count))
+    (λ c. let f = held (copied (c .before)) .frame in omega (arith, f .lengths-size, f .most-rows))
+    (λ c. sym (held (copied (lent c)) .frame .row-count))
+    (λ c. let h = held (copied (lent c)) in omega (arith, h .array-size, h .frame .cells))
     (λ c. let s = copied (lent (c .before)) in
-    let h = held s in
-    sym (length-take-le _ (start s .args .self .array) (omega (arith, h .array-size, h .cells))))
+    sym (length-take-le _ (start s .args .self .array) (omega (arith, held s .array-size, held s .frame .cells))))
     misfits-requires
-    returns)
+    (λ c. let s = start (copied (lent (c .before .before))) in (record { number = c .misfits .ensures; kept = refl }, s .pre)))

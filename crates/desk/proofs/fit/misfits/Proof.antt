@@ -22,15 +22,12 @@ all-inverses-requires c κs = let s = start (c .before) in
       ((omega arith, omega arith, omega arith), symbols-zeros (s .args .degree) 1536),
     )
 
-rows-misfits-requires : tie.Need-rows-misfits-requires
-rows-misfits-requires c κs = let all = c .before .before in
-    let k = all .before .before in
-    record { given = start k .pre; inverses = rw (k .largest .ensures) at (all .all-inverses .ensures) }
-
 pub misfits-spec : {M : Type 1} → statement M
 misfits-spec = tie.close (tie.spec
     (λ c κs. search needs) (λ c. search needs)
     all-inverses-requires
     (λ c. search needs)
-    rows-misfits-requires
+    (λ c κs. let all = c .before .before in
+    let k = all .before .before in
+    record { given = start k .pre; inverses = rw (k .largest .ensures) at (all .all-inverses .ensures) })
     (λ c. search needs))

@@ -25,14 +25,6 @@ module _ (c : tie.After-wide Inv-loop μ-loop) where
   row : turn .before .loop .start + length (start .args .points .now) ≤ length (start .args .array .now)
   row = row-inside (start .pre) (turn .before .loop .inv) (turn .loop-test .taken)
 
-misfit-requires : tie.Need-misfit-requires Inv-loop μ-loop
-misfit-requires c κs = let w = c .before in
-    row-given (start w .pre) (turn w .before .loop .inv) (turn w .loop-test .taken) (w .wide .ensures)
-
-loop-again : tie.Need-loop-again Inv-loop μ-loop
-loop-again c = let w = c .before .before in
-    counting-again (turn w .before .loop .inv) (turn w .loop-test .taken) (rw (w .wide .ensures) at (c .misfit .ensures))
-
 pub rows-misfits-spec : {M : Type 1} → statement M
 rows-misfits-spec = tie.close (tie.spec Inv-loop μ-loop
     (λ c. counting-begin _ _ _ _)
@@ -41,9 +33,11 @@ rows-misfits-spec = tie.close (tie.spec Inv-loop μ-loop
     (λ c. search needs)
     (λ c. omega (arith, row c))
     (λ c. omega (arith, row c))
-    misfit-requires
+    (λ c κs. let w = c .before in
+    row-given (start w .pre) (turn w .before .loop .inv) (turn w .loop-test .taken) (w .wide .ensures))
     (λ c. let w = c .before .before in omega (arith, at-most (c .misfit .ensures), turn w .before .loop .inv .few))
     (λ c. omega (arith, row (c .before .before)))
     (λ c. search needs) (λ c. search needs)
-    loop-again
+    (λ c. let w = c .before .before in
+    counting-again (turn w .before .loop .inv) (turn w .loop-test .taken) (rw (w .wide .ensures) at (c .misfit .ensures)))
     (λ c. counting-end (c .before .loop .inv) (c .loop-test .left)))

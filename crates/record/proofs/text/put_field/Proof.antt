@@ -5,7 +5,7 @@ use native.Mathlib.Omega.{arith}
 use lib.ListN.{length, length-append}
 use Rattle.record.specs.Lines.{decimal}
 use Rattle.record.proofs.Decimals.{decimal-short}
-use Rattle.record.proofs.Layouts.{puts-then}
+use Rattle.record.proofs.Fields.{puts-then}
 use borrow.Author.Needs.{needs}
 use Rattle.record.proofs.text.put_field.Statement.{statement}
 use Rattle.record.proofs.text.put_field.Tie as tie

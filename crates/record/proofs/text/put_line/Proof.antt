@@ -8,8 +8,7 @@ use lib.ListN.{length, length-append}
 use Rattle.record.specs.Lines.{ascii, decimal}
 use Rattle.record.specs.Working.{Puts, fieldsOf}
 use Rattle.record.proofs.Decimals.{decimal-short}
-use Rattle.record.proofs.Layouts.{puts-then}
-use Rattle.record.proofs.Fields.{line-parts}
+use Rattle.record.proofs.Fields.{puts-then, line-parts}
 use borrow.Author.Needs.{needs}
 use Rattle.record.proofs.text.put_line.Statement.{statement}
 use Rattle.record.proofs.text.put_line.Tie as tie
@@ -23,17 +22,6 @@ start c = c .before .before .before .before
 
 abbrev numbered : tie.After-put-ending → tie.After-put-number
 numbered c = c .before .before .before .before
-
-put-ending-requires : tie.Need-put-ending-requires
-put-ending-requires c κs = let n = c .before .before .before in
-    let s = start n in
-    record { flags = s .pre .flags; room = omega (arith, short s, s .pre .room, n .put-number .ensures, n .put-number .kept) }
-
-put-text-requires : tie.Need-put-text-requires
-put-text-requires c κs = let e = c .before .before .before .before in
-    let n = numbered e .put-number in
-    let s = start (numbered e) in
-    omega (arith, short s, s .pre .room, n .ensures, n .kept, e .put-ending .ensures .most, e .put-ending .kept)
 
 returns : tie.Need-returns
 returns c = let e = c .before .before .before .before .before .before .before in
@@ -56,8 +44,13 @@ returns c = let e = c .before .before .before .before .before .before .before in
 pub put-line-spec : {M : Type 1} → statement M
 put-line-spec = tie.close (tie.spec
     (λ c κs. let s = c .before .before .before in omega (arith, short s, s .pre .room))
-    put-ending-requires
+    (λ c κs. let n = c .before .before .before in
+    let s = start n in
+    record { flags = s .pre .flags; room = omega (arith, short s, s .pre .room, n .put-number .ensures, n .put-number .kept) })
     (λ c. search needs)
-    put-text-requires
+    (λ c κs. let e = c .before .before .before .before in
+    let n = numbered e .put-number in
+    let s = start (numbered e) in
+    omega (arith, short s, s .pre .room, n .ensures, n .kept, e .put-ending .ensures .most, e .put-ending .kept))
     (λ c. search needs)
     returns)

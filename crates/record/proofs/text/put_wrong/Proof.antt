@@ -21,28 +21,19 @@ module _ (c : tie.Then1 Inv-loop μ-loop) where
   abbrev start : tie.Start Inv-loop μ-loop
   start = turn .before .before .before .before
 
-loop-again : tie.Need-loop-again Inv-loop μ-loop
-loop-again c = let w = c .before .before .before .before in
-    let t = turn w in
-    let p = c .before .before .put-column .ensures in
-    wrong-put _ _ _ _ _ _ _ (t .before .loop .inv) (t .loop-test .taken) (w .if1 .taken) (start w .pre) p
-
-loop-again-2 : tie.Need-loop-again-2 Inv-loop μ-loop
-loop-again-2 c = let t = c .before .before in wrong-skip _ _ _ _ _ _ _ (t .before .loop .inv) (t .loop-test .taken) (c .if1 .left)
-
-put-column-requires : tie.Need-put-column-requires Inv-loop μ-loop
-put-column-requires c κs = let w = c .before in
-    let t = turn w in
-    wrong-room _ _ _ _ _ _ _ (t .before .loop .inv) (t .loop-test .taken) (w .if1 .taken) (start w .pre)
-
 pub put-wrong-spec : {M : Type 1} → statement M
 put-wrong-spec = tie.close (tie.spec Inv-loop μ-loop
     (λ c. wrong-begin _ _ _)
     (λ c. search needs) (λ c. search needs)
-    put-column-requires
+    (λ c κs. let w = c .before in
+    let t = turn w in
+    wrong-room (t .before .loop .inv) (t .loop-test .taken) (w .if1 .taken) (start w .pre))
     (λ c. search needs)
-    loop-again
+    (λ c. let w = c .before .before .before .before in
+    let t = turn w in
+    let p = c .before .before .put-column .ensures in
+    wrong-put (t .before .loop .inv) (t .loop-test .taken) (w .if1 .taken) (start w .pre) p)
     (λ c. search needs)
-    loop-again-2
+    (λ c. let t = c .before .before in wrong-skip (t .before .loop .inv) (t .loop-test .taken) (c .if1 .left))
     (λ c. c .before .loop .inv .size)
-    (λ c. wrong-end _ _ _ _ _ _ _ (c .before .loop .inv) (c .loop-test .left)))
+    (λ c. wrong-end (c .before .loop .inv) (c .loop-test .left)))
