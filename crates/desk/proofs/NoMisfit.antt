@@ -35,12 +35,8 @@ module _ {c : Code} (p : Proper c) where
   rows-reduced (k ∷ ks) a w l s =
       let n : ℕ = length (c .points) in
       first-row
-      (row-exactly (gf (c .degree)) (p .field) k (c .points) (take n a)
-      (p .distinct)
-      (p .symbols)
-      (all-take (IsSymbol (c .degree)) n a s)
-      (row-length (length ks) n a l)
-      (w .0 .1))
+      (row-exactly (gf (c .degree)) (p .field) k (c .points) (take n a) (p .distinct) (p .symbols)
+      (all-take (IsSymbol (c .degree)) n a s) (row-length (length ks) n a l) (w .0 .1))
       (rows-reduced ks (drop n a) (w .1) (rest-length (length ks) n a l) (all-drop (IsSymbol (c .degree)) n a s))
 
 pub no-misfit : {d : Desk} → Made d → Verdict d 0 ↔ CodeArray (codeOf d) (arrayOf d)

@@ -37,8 +37,7 @@ module _ (d : Desk) (i : ℕ) (s : List ℕ) (m : Made d) (e : 0 ≡ first (putC
       ∙ getD-take (d .rows * d .columns) (placed d i s .array) (l * d .columns + i) 0 (cell (d .rows) (d .columns) l i q (can .column))
       ∙ column-there (d .columns) i s (d .array) (omega (arith, h .frame .some-columns))
       (λ k g. omega (arith, cell (d .rows) (d .columns) k i (omega (arith, can .count)) (can .column), h .frame .cells, h .array-size))
-      l
-      (omega (arith, can .count))
+      l (omega (arith, can .count))
 
   same : (j : ℕ) → j < d .columns → (j ≡ i → ⊥) → (l : ℕ) → l < d .rows
       → getD (arrayOf d) (l * d .columns + j) 0 ≡ getD (arrayOf after) (l * d .columns + j) 0

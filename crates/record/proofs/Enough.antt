@@ -1,7 +1,8 @@
 -- The bytes beyond those wanted do not matter.
 --
 --   enough    the answer to the bytes at hand is the answer to all that is left, once there are as many as are wanted
---   rest-of   where the record is whole, the next one begins behind the bytes at hand
+--   all-held  where the record is whole, as many bytes are at hand as are wanted
+--   rest-of   and where no more are, the next one begins behind them
 --   no-more   where no more bytes come than were wanted, no more are held than are then wanted
 -- Assumes nothing.
 use mathlib.Core.Path.{_≡_, refl, sym, ap, ap₂, _∙_}
@@ -149,15 +150,16 @@ enough number (x ∷ b) rest lent r left h =
     ap (λ (s : ℕ). AnswersBy s number (recordIn fresh (x ∷ b ++ rest)) lent r left) (same .0)
     ∙ same-by (stopOf (x ∷ b)) number (recordIn fresh (x ∷ b ++ rest)) (recordIn fresh (x ∷ b)) lent r left (same .1)
 
-pub rest-of : (b rest : List ℕ) → stopOf b ≡ 0 → length b ≡ wanted b → drop (sizeIn (b ++ rest)) (b ++ rest) ≡ rest
-rest-of b rest z e =
-    let w = whole-of b z in
-    let size : sizeIn (b ++ rest) ≡ length b =
-    same-size b rest (w .five) ∙ sym (wants-all b no-mark (w .five) (w .inside)) ∙ sym e in
-    ap (λ (k : ℕ). drop k (b ++ rest)) size ∙ drop-append-seam b rest
-  where
-    no-mark : noMark b ≡ false
-    no-mark = by-cases (noMark b) (λ m. absurd (omega (arith, z, stop-twelve b (omega arith) b m))) (λ m. m)
+module _ (b : List ℕ) (z : stopOf b ≡ 0) where
+  pub all-held : wanted b ≤ length b
+  all-held = let w = whole-of b z in omega (arith, w .complete, wants-all b (w .marked) (w .five) (w .inside))
+
+  pub rest-of : (rest : List ℕ) → length b ≤ wanted b → drop (sizeIn (b ++ rest)) (b ++ rest) ≡ rest
+  rest-of rest e =
+      let w = whole-of b z in
+      let size : sizeIn (b ++ rest) ≡ length b =
+      omega (arith, same-size b rest (w .five), w .complete, wants-all b (w .marked) (w .five) (w .inside)) in
+      ap (λ (k : ℕ). drop k (b ++ rest)) size ∙ drop-append-seam b rest
 
 pub no-more : (b more : List ℕ) → length (b ++ more) ≤ wanted b → length (b ++ more) ≤ wanted (b ++ more)
 unfolding wanted

@@ -3,7 +3,7 @@
 --
 --   prints-end     nothing is left
 --   prints-last    reading stops: as many bytes are at hand as are wanted, or all that are left
---   prints-next    it goes on behind the record
+--   prints-next    it goes on behind the record: no more bytes are at hand than are wanted
 -- Assumes nothing.
 use mathlib.Core.Path.{_≡_, refl, sym, ap, ap₂, _∙_, subst}
 use mathlib.Core.Logic.{_⊎_, inl, inr}
@@ -17,7 +17,7 @@ use Rattle.joint.specs.Promises.{Given}
 use Rattle.record.specs.Records.{stopOf, wanted}
 use Rattle.record.specs.Promises.{LineOf, recordIn, fresh, refusedLine, AnswersBy, Answers, Prints, ends, stops, goes}
 use Rattle.record.specs.declared.Reply.the-variants.{Last, Next}
-use Rattle.record.proofs.Enough.{same-answer, rest-of}
+use Rattle.record.proofs.Enough.{same-answer, all-held, rest-of}
 
 front : (v lent : List ℕ) → length v ≤ length lent → take (length v) (lay 0 v lent) ≡ v
 unfolding part
@@ -58,11 +58,11 @@ module _ (number n : ℕ) (lent left : List ℕ) (room : n ≤ length left) wher
       (refl, subst (LineOf number g) (sym (ap₂ take size (h .3) ∙ front line lent fits)) (h .1))
   next-by (suc k) g h = absurd (let z : _≡_ {A = ℕ} 0 1 = cc in omega arith)
 
-  pub prints-next : (p rest out : List ℕ) → length p ≡ wanted p → Answers number p lent (Next n) left → Prints (suc number) rest out
+  pub prints-next : (p rest out : List ℕ) → length p ≤ wanted p → Answers number p lent (Next n) left → Prints (suc number) rest out
       → Prints number (p ++ rest) (take n left ++ out)
   prints-next [] rest out w h more = absurd (let z : _≡_ {A = ℕ} 0 1 = cc in omega arith)
   prints-next (x ∷ p) rest out w h more =
       let l = next-by (stopOf (x ∷ p)) (recordIn fresh (x ∷ p)) h in
-      let same = same-answer (x ∷ p) (omega arith) rest in
+      let same = same-answer (x ∷ p) (all-held (x ∷ p) (l .0)) rest in
       goes {number = number} {b = x ∷ p ++ rest} {line = take n left} {rest = out} nonempty (same .0 ∙ l .0) (rw (same .1 (l .0)) (l .1))
-      (subst (λ (b : List ℕ). Prints (suc number) b out) (sym (rest-of (x ∷ p) rest (l .0) w)) more) refl
+      (subst (λ (b : List ℕ). Prints (suc number) b out) (sym (rest-of (x ∷ p) (l .0) rest w)) more) refl

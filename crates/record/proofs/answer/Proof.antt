@@ -42,9 +42,7 @@ returns-3 c = let d = c .before in
     let s = start at .args in
     let line = d .decode .ensures in (
       answers-next (s .number) (s .out .now) (s .bytes .now) (line .line) (at .before .if1 .left)
-          (sym (at .stop .ensures) ∙ whole d .if2 .left)
-          (line .of-record)
-          (line .puts),
+          (sym (at .stop .ensures) ∙ whole d .if2 .left) (line .of-record) (line .puts),
       counts _ _ (omega (arith, line .most, d .decode .kept)),
     )
 
