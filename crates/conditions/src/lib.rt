@@ -17,7 +17,7 @@ ghost use Rattle.mark.specs.Code.{IsArray, codeOf, largest};
 ghost use Rattle.mark.proofs.Passed.{Counts};
 ghost use Rattle.mark.proofs.Proper.{Proper, Within};
 ghost use Rattle.conditions.specs.Working.{reducedPoints, reducedValues};
-use field::tables::LENT;
+use field::tables::Table;
 use mark::checks;
 use mark::checks::wide;
 
@@ -36,7 +36,7 @@ pub fn row_counts(lengths: &[u8], points: &[u8], counts: &mut [usize])
 // The conditions of a row: what k rounds of divided differences leave of it, in us from `at` on, and the points, in xs; ws are
 // the inverses of the rounds.
 fn row_conditions(
-    table: &[u8; LENT],
+    table: &Table,
     degree: u32,
     points: &[u8],
     k: usize,
@@ -62,7 +62,7 @@ fn row_conditions(
 // The conditions of all rows at the front of us and xs, ws being the inverses of the longest row's rounds; answers how many
 // there are.
 fn rows_conditions(
-    table: &[u8; LENT],
+    table: &Table,
     degree: u32,
     lengths: &[u8],
     points: &[u8],
@@ -103,7 +103,7 @@ fn rows_conditions(
 
 // For the crates above: the conditions of all rows at the front of us and xs; answers how many there are.
 pub fn conditions(
-    table: &[u8; LENT],
+    table: &Table,
     degree: u32,
     lengths: &[u8],
     points: &[u8],

@@ -3,13 +3,13 @@ ghost use mathlib.Core.List.{[], _∷_};
 ghost use Rattle.mark.specs.Code.{codeOf};
 ghost use Rattle.desk.specs.Verdict.{Misfits};
 ghost use Rattle.desk.specs.Working.{ArrayGiven, RowGiven, RowsGiven};
-use field::tables::LENT;
+use field::tables::Table;
 use mark::checks;
 use mark::checks::wide;
 
 // 1 where the row is not values of a polynomial with at most k coefficients, 0 where it is: k rounds of divided differences
 // leave something, or nothing, but zeros; ws are the inverses of the rounds.
-fn misfit(table: &[u8; LENT], degree: u32, points: &[u8], k: usize, ws: &[u8], row: &[u8]) -> usize
+fn misfit(table: &Table, degree: u32, points: &[u8], k: usize, ws: &[u8], row: &[u8]) -> usize
     requires { ⌜ RowGiven degree (now table) (now points) k (now ws) (now row) ⌝ }
     ensures { λ r. ⌜ Misfits degree (now (points .entry)) (k ∷ []) (now (row .entry)) r ⌝ }
 {
@@ -23,7 +23,7 @@ fn misfit(table: &[u8; LENT], degree: u32, points: &[u8], k: usize, ws: &[u8], r
 
 // The number of rows of the array that do not fit, ws being the inverses of the longest row's rounds.
 fn rows_misfits(
-    table: &[u8; LENT],
+    table: &Table,
     degree: u32,
     points: &[u8],
     lengths: &[u8],
@@ -53,13 +53,7 @@ fn rows_misfits(
 }
 
 // The number of rows of the array that do not fit.
-pub fn misfits(
-    table: &[u8; LENT],
-    degree: u32,
-    points: &[u8],
-    lengths: &[u8],
-    array: &[u8],
-) -> usize
+pub fn misfits(table: &Table, degree: u32, points: &[u8], lengths: &[u8], array: &[u8]) -> usize
     requires { ⌜ ArrayGiven (now table) (codeOf degree (now points) (now lengths)) (now array) ⌝ }
     ensures { λ r. ⌜ Misfits degree (now (points .entry)) (now (lengths .entry)) (now (array .entry)) r ⌝ }
 {

@@ -2,6 +2,7 @@
 --
 --   generated-2, generated-4, generated-8    the tests, which antt computes
 --   generated d    the tests of a degree that is not bad
+--   tested d       those of them that the product needs
 --   field d        the laws of the field of such a degree
 -- Assumes nothing.
 use mathlib.Core.Path.{_≡_}
@@ -19,20 +20,32 @@ use Rattle.field.specs.Tables.{power, powers, placeOf}
 use Rattle.field.specs.Arithmetic.{gf}
 use Rattle.field.proofs.Laws.{Field}
 use Rattle.field.proofs.Sums.{plus-comm, plus-assoc, zero-plus, plus-self, plus-below}
-use Rattle.field.proofs.Products.{times-plus, times-comm, times-assoc, times-below, one-times}
+use Rattle.field.proofs.Products.{Tested, times-plus, times-comm, times-assoc, times-below, one-times}
 use Rattle.field.proofs.Powers.{Generated, over-times, over-zero, over-below}
+
+tested-2 : Tested 2
+unfolding timesX timesLow times plus modulus
+tested-2 = record { commute = tt; associate = tt; close = tt; unit = tt; move = tt }
 
 generated-2 : Generated 2
 unfolding timesX timesLow times plus modulus power powers placeOf
-generated-2 = record { tested = record { commute = tt; associate = tt; close = tt; unit = tt; move = tt }; two = tt; round = tt; reach = tt; start = tt; room = tt; closing = tt }
+generated-2 = record { tested = tested-2; two = tt; round = tt; reach = tt; start = tt; room = tt; closing = tt }
+
+tested-4 : Tested 4
+unfolding timesX timesLow times plus modulus
+tested-4 = record { commute = tt; associate = tt; close = tt; unit = tt; move = tt }
 
 generated-4 : Generated 4
 unfolding timesX timesLow times plus modulus power powers placeOf
-generated-4 = record { tested = record { commute = tt; associate = tt; close = tt; unit = tt; move = tt }; two = tt; round = tt; reach = tt; start = tt; room = tt; closing = tt }
+generated-4 = record { tested = tested-4; two = tt; round = tt; reach = tt; start = tt; room = tt; closing = tt }
+
+tested-8 : Tested 8
+unfolding timesX timesLow times plus modulus
+tested-8 = record { commute = tt; associate = tt; close = tt; unit = tt; move = tt }
 
 generated-8 : Generated 8
 unfolding timesX timesLow times plus modulus power powers placeOf
-generated-8 = record { tested = record { commute = tt; associate = tt; close = tt; unit = tt; move = tt }; two = tt; round = tt; reach = tt; start = tt; room = tt; closing = tt }
+generated-8 = record { tested = tested-8; two = tt; round = tt; reach = tt; start = tt; room = tt; closing = tt }
 
 pub generated : (d : ℕ) → badDegree d ≡ false → Generated d
 generated d h = go (degrees d h)
@@ -41,6 +54,9 @@ generated d h = go (degrees d h)
     go (inl e) = rw e generated-2
     go (inr (inl e)) = rw e generated-4
     go (inr (inr e)) = rw e generated-8
+
+pub tested : (d : ℕ) → badDegree d ≡ false → Tested d
+tested d h = generated d h .tested
 
 field-of : (d : ℕ) → Generated d → Field (gf d)
 field-of d 𝓖 = record {

@@ -6,7 +6,6 @@
 --   exponent d b        the exponent of a nonzero symbol; power-exponent: x to it is b; exponent-below
 --   over-times          division undoes the product
 --   over-unique         nothing else does
---   no-zero-divisors    a product is zero only if a factor is
 -- Assumes nothing.
 use mathlib.Core.Path.{_≡_, refl, sym, ap, _∙_, subst}
 use mathlib.Core.Bool.{Bool, true, false, cond, _&&_, _||_}
@@ -22,7 +21,7 @@ use borrow.Author.Tests.{eq-eqb, ne-eqb}
 use Rattle.field.specs.Symbols.{plus, modulus, timesX, times, quotientBelow, over}
 use Rattle.field.specs.Tables.{power, powers, placeOf, Exponent}
 use Rattle.field.proofs.Sums.{plus-low}
-use Rattle.field.proofs.Products.{Tested, times-comm, times-assoc, times-below, one-times, x-times, zero-times, allBelow, below}
+use Rattle.field.proofs.Products.{Tested, times-comm, times-assoc, times-below, one-times, x-times, allBelow, below}
 
 -- b is 0 or stands at its place in p
 abbrev stands : List ℕ → ℕ → Bool
@@ -154,7 +153,9 @@ module _ (d : ℕ) (𝓖 : Generated d) where
 
       go : T (stands p b) → eqb b 0 ≡ false → (getD p (placeOf b p) 0 ≡ b) × (placeOf b p < 2 ^ d - 1)
       go t e =
-          let both : T (eqb (getD p (placeOf b p) 0) b) × T (ltb (placeOf b p) (length p)) = split (eqb (getD p (placeOf b p) 0) b) (ltb (placeOf b p) (length p)) (rw e at t) in
+          let here : Bool = eqb (getD p (placeOf b p) 0) b in
+          let inside : Bool = ltb (placeOf b p) (length p) in
+          let both : T here × T inside = split here inside (rw e at t) in
           (eqb→eq (getD p (placeOf b p) 0) b (both .0), rw (length-powers d (2 ^ d - 1) 1) at (ltb→lt (placeOf b p) (length p) (both .1)))
 
   pub exponent-below : (b : ℕ) → b < 2 ^ d → (b ≡ 0 → ⊥) → exponent d b < 2 ^ d - 1
@@ -193,6 +194,3 @@ module _ (d : ℕ) (𝓖 : Generated d) where
   over-unique a b c hb hc n e =
       cancel (over d a b) c b (over-below d a b) hc hb n
       (over-times a b (subst (λ (x : ℕ). x < 2 ^ d) e (times-below d (𝓖 .tested) c b)) hb n ∙ sym e)
-
-  pub no-zero-divisors : (a b : ℕ) → a < 2 ^ d → b < 2 ^ d → times d a b ≡ 0 → (b ≡ 0 → ⊥) → a ≡ 0
-  no-zero-divisors a b ha hb e n = cancel a 0 b ha (pow-pos d) hb n (e ∙ sym (zero-times d (𝓖 .tested) b))

@@ -20,7 +20,8 @@ use lib.Dec.{T, eqb, ltb, eqb→eq, ltb→lt}
 use lib.Pow.{pow-pos, pow-add, mod-mod-pow}
 use lib.Pow
 use Rattle.field.specs.Symbols.{plus, modulus, timesX, timesLow, times}
-use Rattle.field.proofs.Sums.{plus-self, plus-swap, plus-half, plus-low, plus-shift, plus-bit, bit-plus, Additive, additive-zero, agree, closed}
+use Rattle.field.proofs.Sums.{plus-self, plus-swap, plus-half, plus-low, plus-shift, plus-bit}
+use Rattle.field.proofs.Sums.{bit-plus, Additive, additive-zero, agree, closed}
 
 -- ---- of any polynomial
 
@@ -142,7 +143,8 @@ module _ (d : ℕ) (𝓣 : Tested d) where
       eqb→eq (times d (times d (2 ^ i) (2 ^ j)) (2 ^ k)) (times d (2 ^ i) (times d (2 ^ j) (2 ^ k)))
       (below d (λ z. eqb (times d (times d (2 ^ i) (2 ^ j)) (2 ^ z)) (times d (2 ^ i) (times d (2 ^ j) (2 ^ z))))
       (below d (λ y. allBelow d λ z. eqb (times d (times d (2 ^ i) (2 ^ y)) (2 ^ z)) (times d (2 ^ i) (times d (2 ^ y) (2 ^ z))))
-      (below d (λ x. allBelow d λ y. allBelow d λ z. eqb (times d (times d (2 ^ x) (2 ^ y)) (2 ^ z)) (times d (2 ^ x) (times d (2 ^ y) (2 ^ z))))
+      (below d (λ x. allBelow d λ y. allBelow d λ z. eqb (times d (times d (2 ^ x) (2 ^ y)) (2 ^ z))
+      (times d (2 ^ x) (times d (2 ^ y) (2 ^ z))))
       (𝓣 .associate) i hi)
       j hj)
       k hk)

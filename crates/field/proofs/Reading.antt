@@ -16,7 +16,8 @@ use lib.ListN.{length, getD, length-append, List·getD-append}
 use lib.Seq.{getD-take, getD-append-add}
 use Rattle.field.specs.Symbols.{times, over}
 use Rattle.field.specs.Tables.{power, powers, placeOf, placesFrom, tableFrom, tableOf, IsTable, Exponent}
-use Rattle.field.proofs.Powers.{Generated, length-powers, powers-at, exponent, exponent-below, power-exponent, power-below, power-add, power-round, over-unique}
+use Rattle.field.proofs.Powers.{Generated, length-powers, powers-at, exponent, exponent-below, power-exponent}
+use Rattle.field.proofs.Powers.{power-below, power-add, power-round, over-unique}
 
 length-places : (b n : ℕ) (p : List ℕ) → length (placesFrom b n p) ≡ n
 unfolding placesFrom
@@ -40,17 +41,18 @@ module _ (d : ℕ) where
   q : List ℕ
   q = placesFrom 0 (2 ^ d) p
 
-  pub table-length : length (tableOf d) ≡ 2 ^ d + ((2 ^ d - 1) + (2 ^ d - 1))
+  table-length : length (tableOf d) ≡ 2 ^ d + ((2 ^ d - 1) + (2 ^ d - 1))
   unfolding tableOf tableFrom p q
   table-length =
-      length-append q (p ++ p) ∙ ap₂ _+_ (length-places 0 (2 ^ d) p) (length-append p p ∙ ap₂ _+_ (length-powers d (2 ^ d - 1) 1) (length-powers d (2 ^ d - 1) 1))
+      let long : length p ≡ 2 ^ d - 1 = length-powers d (2 ^ d - 1) 1 in
+      length-append q (p ++ p) ∙ ap₂ _+_ (length-places 0 (2 ^ d) p) (length-append p p ∙ ap₂ _+_ long long)
 
   module _ (l : List ℕ) (is : IsTable d l) where
     entry : (i : ℕ) → i < length (tableOf d) → getD l i 0 ≡ getD (tableOf d) i 0
     unfolding IsTable
     entry i h = sym (getD-take (length (tableOf d)) l i 0 h) ∙ ap (λ (s : List ℕ). getD s i 0) is
 
-    pub exponent-at : (a : ℕ) → a < 2 ^ d → getD l a 0 ≡ exponent d a
+    exponent-at : (a : ℕ) → a < 2 ^ d → getD l a 0 ≡ exponent d a
     unfolding tableOf tableFrom p q exponent
     exponent-at a h =
         entry a (rw table-length (omega arith)) ∙ List·getD-append q (p ++ p) 0 a (rw (length-places 0 (2 ^ d) p) h)

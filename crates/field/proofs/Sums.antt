@@ -67,7 +67,8 @@ xor-assoc =
     xor-step (bitXor n b) c
     ∙ ap₂ (λ (h l : ℕ). h * 2 + l)
     (ap (λ (h : ℕ). bitXor h (c / 2)) (half-of n b) ∙ ih (b / 2) (c / 2) ∙ ap (bitXor (n / 2)) (sym (half-of b c)))
-    (ap (λ (l : ℕ). differ l (c % 2)) (bit-differs n b) ∙ differ-assoc (n % 2) (b % 2) (c % 2) (bit-lt n) (bit-lt b) (bit-lt c) ∙ ap (differ (n % 2)) (sym (bit-differs b c)))
+    (ap (λ (l : ℕ). differ l (c % 2)) (bit-differs n b) ∙ differ-assoc (n % 2) (b % 2) (c % 2) (bit-lt n) (bit-lt b) (bit-lt c)
+    ∙ ap (differ (n % 2)) (sym (bit-differs b c)))
     ∙ sym (xor-step n (bitXor b c)))
 
 pub plus-comm : (a b : ℕ) → plus a b ≡ plus b a
@@ -144,7 +145,8 @@ top d a = sym (split a d) ∙ sym (xor-shifted (a / 2 ^ d) d (a % 2 ^ d) (mod-lt
 
 pub additive-bit : (f : ℕ → ℕ) → Additive f → (p s : ℕ) → f (s % 2 * p) ≡ s % 2 * f p
 additive-bit f af p s =
-    ⊎-elim (λ (z : s % 2 ≡ 0). rw (z, zero-mul p, zero-mul (f p)) (additive-zero f af)) (λ (z : s % 2 ≡ 1). rw (z, one-mul p, one-mul (f p)) refl)
+    ⊎-elim (λ (z : s % 2 ≡ 0). rw (z, zero-mul p, zero-mul (f p)) (additive-zero f af))
+    (λ (z : s % 2 ≡ 1). rw (z, one-mul p, one-mul (f p)) refl)
     (bit-cases (s % 2) (bit-lt s))
 
 module _ (f g : ℕ → ℕ) (af : Additive f) (ag : Additive g) where
@@ -166,5 +168,6 @@ module _ (f g : ℕ → ℕ) (af : Additive f) (ag : Additive g) where
 
 pub closed : (f : ℕ → ℕ) → Additive f → (d : ℕ) → ((i : ℕ) → i < d → f (2 ^ i) < 2 ^ d) → (a : ℕ) → a < 2 ^ d → f a < 2 ^ d
 closed f af d e a h =
-    subst (λ (x : ℕ). x < 2 ^ d) (sym (agree f (λ x. f x % 2 ^ d) af (λ x y. ap (λ (z : ℕ). z % 2 ^ d) (af x y) ∙ plus-low d (f x) (f y)) d (λ i k. sym (mod-eq-of-lt (e i k))) a h))
-    (mod-lt (f a) (pow-pos d))
+    let low : Additive (λ x. f x % 2 ^ d) = λ x y. ap (λ (z : ℕ). z % 2 ^ d) (af x y) ∙ plus-low d (f x) (f y) in
+    let same : f a ≡ f a % 2 ^ d = agree f (λ x. f x % 2 ^ d) af low d (λ i k. sym (mod-eq-of-lt (e i k))) a h in
+    subst (λ (x : ℕ). x < 2 ^ d) (sym same) (mod-lt (f a) (pow-pos d))

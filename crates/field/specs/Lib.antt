@@ -1,4 +1,5 @@
 pub mod Symbols
 pub mod Arithmetic
+pub mod Doublings
 pub mod Tables
 pub mod Answers

@@ -1,16 +1,20 @@
 // The constant tables, one for each field, and the product and the quotient that are read off them.
 //
-// A table has, for each symbol, its exponent as a power of x, and then the powers of x, two rounds of them. A function that
-// names a table has it copied to its stack: the outermost function calls `lend` once, and lends what it got.
+// A table has, for each symbol, its exponent as a power of x, and then the powers of x, two rounds of them: this is known here
+// alone. A function that names a table has it copied to its stack: the outermost function calls `lend` once, and lends what it got.
 ghost use mathlib.Core.Path.{_≡_};
 ghost use mathlib.Core.Bool.{false};
-ghost use Prim.Native.Nat.{_+_, _-_, _^_, _<_};
+ghost use Prim.Native.Nat.{_+_, _-_, _%_, _^_, _<_};
 ghost use Rattle.refusal.specs.Refusal.{badDegree};
-ghost use Rattle.field.specs.Symbols.{times, over};
+ghost use Rattle.field.specs.Symbols.{modulus, times, over};
+ghost use Rattle.field.specs.Doublings.{doublings};
 ghost use Rattle.field.specs.Tables.{power, IsTable, Exponent};
 
 // How long a lent table is, whichever the field.
-pub const LENT: usize = 766;
+const LENT: usize = 766;
+
+// For the crates above: a table to be lent, whichever the field.
+pub type Table = [u8; LENT];
 
 const GF4: [u8; 10] = [3, 0, 1, 2, 1, 2, 3, 1, 2, 3];
 
@@ -833,7 +837,7 @@ const GF256: [u8; 766] = [
 ];
 
 // For the crates above: the table of a field, to be lent.
-pub fn lend(degree: u32) -> [u8; LENT]
+pub fn lend(degree: u32) -> Table
     requires { ⌜ badDegree degree ≡ false ⌝ }
     ensures { λ r. ⌜ IsTable degree r ⌝ }
 {
@@ -862,8 +866,8 @@ pub fn size(degree: u32) -> usize
     1usize << degree
 }
 
-// For the crates above: the exponent of a symbol that is not zero, as a power of x.
-pub fn exponent_from(table: &[u8; LENT], degree: u32, a: u8) -> usize
+// The exponent of a symbol that is not zero, as a power of x.
+fn exponent_from(table: &Table, degree: u32, a: u8) -> usize
     requires { ⌜ badDegree degree ≡ false ⌝ }
     requires { ⌜ IsTable degree (now table) ⌝ }
     requires { ⌜ a < 2 ^ degree ⌝ }
@@ -873,8 +877,8 @@ pub fn exponent_from(table: &[u8; LENT], degree: u32, a: u8) -> usize
     wide(table[wide(a)])
 }
 
-// For the crates above: a power of x, within the two rounds that a table has.
-pub fn power_from(table: &[u8; LENT], degree: u32, i: usize) -> u8
+// A power of x, within the two rounds that a table has.
+fn power_from(table: &Table, degree: u32, i: usize) -> u8
     requires { ⌜ badDegree degree ≡ false ⌝ }
     requires { ⌜ IsTable degree (now table) ⌝ }
     requires { ⌜ i < (2 ^ degree - 1) + (2 ^ degree - 1) ⌝ }
@@ -884,7 +888,7 @@ pub fn power_from(table: &[u8; LENT], degree: u32, i: usize) -> u8
 }
 
 // For the crates above: the product of two symbols, from a lent table.
-pub fn product_from(table: &[u8; LENT], degree: u32, a: u8, b: u8) -> u8
+pub fn product_from(table: &Table, degree: u32, a: u8, b: u8) -> u8
     requires { ⌜ badDegree degree ≡ false ⌝ }
     requires { ⌜ IsTable degree (now table) ⌝ }
     requires { ⌜ (a < 2 ^ degree) × (b < 2 ^ degree) ⌝ }
@@ -902,7 +906,7 @@ pub fn product_from(table: &[u8; LENT], degree: u32, a: u8, b: u8) -> u8
 }
 
 // For the crates above: the quotient of a symbol by one that is not zero, from a lent table.
-pub fn quotient_from(table: &[u8; LENT], degree: u32, a: u8, b: u8) -> u8
+pub fn quotient_from(table: &Table, degree: u32, a: u8, b: u8) -> u8
     requires { ⌜ badDegree degree ≡ false ⌝ }
     requires { ⌜ IsTable degree (now table) ⌝ }
     requires { ⌜ (a < 2 ^ degree) × (b < 2 ^ degree) ⌝ }
@@ -915,4 +919,49 @@ pub fn quotient_from(table: &[u8; LENT], degree: u32, a: u8, b: u8) -> u8
     let i = exponent_from(table, degree, a);
     let j = exponent_from(table, degree, b);
     power_from(table, degree, i + (size(degree) - 1 - j))
+}
+
+// x^i times the symbol c, whose exponent is e.
+fn doubling(table: &Table, degree: u32, c: u8, e: usize, i: u32) -> u8
+    requires { ⌜ badDegree degree ≡ false ⌝ }
+    requires { ⌜ IsTable degree (now table) ⌝ }
+    requires { ⌜ Exponent degree c e ⌝ }
+    ensures { λ r. ⌜ r ≡ times degree (2 ^ i) c ⌝ }
+{
+    if degree <= i {
+        return 0;
+    }
+    power_from(table, degree, i as usize + e)
+}
+
+// For the crates above: the doublings of a constant factor, from a lent table.
+pub fn doublings_from(table: &Table, degree: u32, c: u8) -> [u8; 8]
+    requires { ⌜ badDegree degree ≡ false ⌝ }
+    requires { ⌜ IsTable degree (now table) ⌝ }
+    requires { ⌜ c < 2 ^ degree ⌝ }
+    ensures { λ r. ⌜ r ≡ doublings degree c ⌝ }
+{
+    if c == 0 {
+        return [0u8; 8];
+    }
+    let e = exponent_from(table, degree, c);
+    [
+        doubling(table, degree, c, e, 0),
+        doubling(table, degree, c, e, 1),
+        doubling(table, degree, c, e, 2),
+        doubling(table, degree, c, e, 3),
+        doubling(table, degree, c, e, 4),
+        doubling(table, degree, c, e, 5),
+        doubling(table, degree, c, e, 6),
+        doubling(table, degree, c, e, 7),
+    ]
+}
+
+// For the crates above: the polynomial without x^8, whatever its degree: what a doubling in a byte takes off.
+pub fn low_bits_from(table: &Table, degree: u32) -> u8
+    requires { ⌜ badDegree degree ≡ false ⌝ }
+    requires { ⌜ IsTable degree (now table) ⌝ }
+    ensures { λ r. ⌜ r ≡ modulus degree % 256 ⌝ }
+{
+    power_from(table, degree, degree as usize) ^ (size(degree) % 256) as u8
 }

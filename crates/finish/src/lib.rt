@@ -20,7 +20,7 @@ ghost use Rattle.ending.proofs.WrongColumns.{rootCount};
 ghost use Rattle.ending.proofs.Model.{filled, divided};
 ghost use Rattle.finish.specs.Working.{released, flagOf, zerosIn, put, refilled, fronts};
 use ending::Ending;
-use field::tables::LENT;
+use field::tables::Table;
 use mark::checks;
 use mark::checks::wide;
 
@@ -85,7 +85,7 @@ pub fn merge(marks: &[u8], vs: &[u8], row: &[u8], s: &mut [u8], at: usize)
 // A row with its wrong columns filled in, in s from `at` on: the values at the wrong points of the polynomial through the row's
 // symbols at the nodes, which are the points of its first right columns; ws are the inverses of the rounds over them.
 fn fill_row(
-    table: &[u8; LENT],
+    table: &Table,
     degree: u32,
     nodes: &[u8],
     wrong: &[u8],
@@ -113,7 +113,7 @@ fn fill_row(
 // The rows of the received array with the wrong columns filled in, at the front of s. Of the points, the good ones are those
 // of the right columns; ws are the inverses of the rounds over the first of these, as many as the longest row has coefficients.
 fn fill_rows(
-    table: &[u8; LENT],
+    table: &Table,
     degree: u32,
     lengths: &[u8],
     points: &[u8],
@@ -155,7 +155,7 @@ fn fill_rows(
 // The received array with the wrong columns filled in, at the front of s. Of the points, the good ones are those of the right
 // columns.
 fn fill_wrong(
-    table: &[u8; LENT],
+    table: &Table,
     degree: u32,
     lengths: &[u8],
     points: &[u8],
@@ -193,7 +193,7 @@ fn fill_wrong(
 // For the crates above: the received array with its wrong columns filled in, at the front of s. A column is wrong where its
 // mark, in the decoder the locator's value there, is zero, and where its flag is not.
 pub fn fill(
-    table: &[u8; LENT],
+    table: &Table,
     degree: u32,
     lengths: &[u8],
     points: &[u8],
@@ -228,7 +228,7 @@ pub fn fill(
 // For the crates above: how a decoding ends where all locators of the least size are multiples of one: with the answer and its
 // flags in buffers of our own if the locator has as many roots among the points as its size, and hollow if not.
 pub fn divide(
-    table: &[u8; LENT],
+    table: &Table,
     degree: u32,
     lengths: &[u8],
     points: &[u8],

@@ -15,7 +15,7 @@ ghost use Rattle.ending.proofs.Model.{Beyond, decided, linesOf};
 ghost use Rattle.conditions.specs.Working.{reducedPoints, reducedValues};
 ghost use Rattle.finish.specs.Working.{fronts, released};
 use ending::Ending;
-use field::tables::LENT;
+use field::tables::Table;
 
 // Whether a line other than those of lead m has a lead within size t.
 fn another_within(leads: &[usize; 5], lines: usize, m: usize, t: usize) -> bool
@@ -32,7 +32,7 @@ fn another_within(leads: &[usize; 5], lines: usize, m: usize, t: usize) -> bool
 
 // Decides on the solver's lines, which the space holds behind `count` conditions.
 fn decide(
-    table: &[u8; LENT],
+    table: &Table,
     degree: u32,
     lengths: &[u8],
     points: &[u8],
@@ -76,7 +76,7 @@ fn decide(
 
 // How the decoding of a received array with the conditions us at xs ends; the solver works in the space.
 fn locate(
-    table: &[u8; LENT],
+    table: &Table,
     degree: u32,
     lengths: &[u8],
     points: &[u8],
@@ -124,7 +124,7 @@ fn locate(
 
 // How the decoding of a received array ends. A code array is its own answer.
 pub(crate) fn end(
-    table: &[u8; LENT],
+    table: &Table,
     degree: u32,
     lengths: &[u8],
     points: &[u8],

@@ -2,8 +2,6 @@
 --
 --   sixteenth, eight   a sixteenth by halves; the degree above 4
 --   combined-times     combined (doublings d c) s = s·c
---   doublings-zero     nothing doubled is nothing
---   doublings-short    doublings end with the degree
 --   four-combined, combined-zero    four bits more; no bit
 --   combined-none      entries that are zero combine to nothing
 --   low-zero, low-step no bit; one bit more
@@ -13,22 +11,24 @@
 use mathlib.Core.Path.{_≡_, refl, sym, ap, ap₂, _∙_}
 use mathlib.Core.Bool.{false}
 use mathlib.Core.Logic.{⊎-elim}
-use mathlib.Core.List.{List, _∷_}
+use mathlib.Core.List.{List}
 use Prim.Native.Nat.{ℕ, zero, suc, _+_, _-_, _*_, _/_, _%_, _^_, _≤_, _<_}
-use native.Mathlib.Nat.{mod-eq-of-lt, div-eq-of-lt, div-eq-of-lt-le, mul-div-cancel, lt-of-lt-of-le, one-mul, zero-mul, mul-zero, mul-one, mul-assoc, mul-comm, pow-suc, add-zero, zero-add, add-suc, suc-add}
+use native.Mathlib.Nat.{mod-eq-of-lt, div-eq-of-lt, div-eq-of-lt-le, mul-div-cancel, lt-of-lt-of-le, one-mul, zero-mul}
+use native.Mathlib.Nat.{mul-zero, mul-one, mul-assoc, mul-comm, pow-suc, add-zero, zero-add}
 use native.Mathlib.Numerals.{add-one}
-use native.Mathlib.Decide.{decLt}
 use native.Mathlib.Omega.{arith}
-use lib.ListN.{length, getD, replicate, List·getD-eq-default}
+use lib.ListN.{getD}
 use lib.Arith.{lt-one}
 use lib.Pow.{pow-pos, pow-mono, shr-lt}
 use Rattle.refusal.specs.Refusal.{badDegree}
 use Rattle.refusal.proofs.Laws.{degrees}
 use Rattle.field.specs.Symbols.{plus, modulus, timesX, timesLow, times}
-use Rattle.lists.specs.Combining.{doublingsFrom, combinedFrom, Short}
-use Rattle.field.proofs.Sums.{plus-comm, plus-zero, plus-self, plus-shift, plus-low, top, bit-cases, bit-lt, Additive, additive-zero, additive-bit}
-use Rattle.field.proofs.Products.{timesX-plus, plus-times, Tested, times-comm, times-below, x-times, zero-times, times-high}
-use Rattle.field.proofs.Powers.{Generated}
+use Rattle.field.specs.Doublings.{doublingsFrom}
+use Rattle.field.proofs.Doublings.{doublings-at}
+use Rattle.lists.specs.Combining.{combinedFrom, fourCombined}
+use Rattle.field.proofs.Sums.{plus-comm, plus-zero, plus-self, plus-shift, plus-low, top}
+use Rattle.field.proofs.Sums.{bit-cases, bit-lt, Additive, additive-zero, additive-bit}
+use Rattle.field.proofs.Products.{timesX-plus, plus-times, Tested, times-below, x-times}
 
 -- a sixteenth is a half of a half of a half of a half
 pub sixteenth : (s : ℕ) → s / 16 ≡ s / 2 / 2 / 2 / 2
@@ -36,41 +36,19 @@ sixteenth s = omega arith
 
 -- of the degrees, only 8 is above 4
 pub eight : (d : ℕ) → badDegree d ≡ false → 4 < d → d ≡ 8
-eight d h large = ⊎-elim (λ (e : d ≡ 2). absurd (let z : d ≤ 4 = omega arith in omega arith)) (⊎-elim (λ (e : d ≡ 4). absurd (let z : d ≤ 4 = omega arith in omega arith)) (λ (e : d ≡ 8). e)) (degrees d h)
+eight d h large = ⊎-elim (λ (e : d ≡ 2). absurd (let z : d ≤ 4 = omega arith in omega arith))
+    (⊎-elim (λ (e : d ≡ 4). absurd (let z : d ≤ 4 = omega arith in omega arith)) (λ (e : d ≡ 8). e)) (degrees d h)
 
 half-below : (n s : ℕ) → s < 2 ^ suc n → s / 2 < 2 ^ n
 half-below n s h = shr-lt n 1 (rw (add-one n) h)
 
-doublings-at : (d c i n k : ℕ) → k < n → getD (doublingsFrom d c i n) k 0 ≡ times d (2 ^ (i + k)) c
-unfolding doublingsFrom
-doublings-at d c i zero k h = absurd (let z : k < 0 = h in omega arith)
-doublings-at d c i (suc n) zero h = ap (λ (x : ℕ). times d (2 ^ x) c) (sym (add-zero i))
-doublings-at d c i (suc n) (suc k) h = doublings-at d c (suc i) n k (omega arith) ∙ ap (λ (x : ℕ). times d (2 ^ x) c) (suc-add i k ∙ sym (add-suc i k))
-
-length-doublings : (d c i n : ℕ) → length (doublingsFrom d c i n) ≡ n
-unfolding doublingsFrom
-length-doublings d c i zero = refl
-length-doublings d c i (suc n) = ap suc (length-doublings d c (suc i) n)
-
-pub doublings-zero : (d : ℕ) → Tested d → (i n : ℕ) → doublingsFrom d 0 i n ≡ replicate n 0
-unfolding doublingsFrom
-doublings-zero d 𝓣 i zero = refl
-doublings-zero d 𝓣 i (suc n) = ap₂ _∷_ (times-comm d 𝓣 (2 ^ i) 0 ∙ zero-times d 𝓣 (2 ^ i)) (doublings-zero d 𝓣 (suc i) n)
-
-pub doublings-short : (d : ℕ) → Tested d → (c : ℕ) → Short d (doublingsFrom d c 0 8)
-doublings-short d 𝓣 c h k = by (decLt k 4)
-  where
-    by : Dec (k < 4) → getD (doublingsFrom d c 0 8) (4 + k) 0 ≡ 0
-    by (yes lt) = doublings-at d c 0 8 (4 + k) (omega arith) ∙ times-high d 𝓣 (0 + (4 + k)) c (omega arith)
-    by (no ge) = List·getD-eq-default (doublingsFrom d c 0 8) 0 (omega (arith, length-doublings d c 0 8))
-
 -- four bits more
 pub four-combined : (r : List ℕ) (i n s : ℕ) {v higher : ℕ}
-    → v ≡ plus (s % 2 * getD r i 0) (plus (s / 2 % 2 * getD r (suc i) 0) (plus (s / 2 / 2 % 2 * getD r (suc (suc i)) 0) (plus (s / 2 / 2 / 2 % 2 * getD r (suc (suc (suc i))) 0) higher)))
+    → v ≡ fourCombined (getD r i 0) (getD r (suc i) 0) (getD r (suc (suc i)) 0) (getD r (suc (suc (suc i))) 0) s higher
     → higher ≡ combinedFrom r (suc (suc (suc (suc i)))) n (s / 2 / 2 / 2 / 2) → v ≡ combinedFrom r i (suc (suc (suc (suc n)))) s
 unfolding combinedFrom
 four-combined r i n s is e =
-    is ∙ ap (λ (x : ℕ). plus (s % 2 * getD r i 0) (plus (s / 2 % 2 * getD r (suc i) 0) (plus (s / 2 / 2 % 2 * getD r (suc (suc i)) 0) (plus (s / 2 / 2 / 2 % 2 * getD r (suc (suc (suc i))) 0) x)))) e
+    is ∙ ap (fourCombined (getD r i 0) (getD r (suc i) 0) (getD r (suc (suc i)) 0) (getD r (suc (suc (suc i))) 0) s) e
 
 pub combined-zero : (r : List ℕ) (i s : ℕ) → combinedFrom r i 0 s ≡ 0
 unfolding combinedFrom
@@ -80,7 +58,8 @@ pub combined-none : (r : List ℕ) (i n s : ℕ) → ((k : ℕ) → getD r (i + 
 unfolding combinedFrom
 combined-none r i zero s e = refl
 combined-none r i (suc n) s e =
-    ap₂ plus (ap (λ (x : ℕ). s % 2 * x) (rw (add-zero i) at (e 0))) (combined-none r (suc i) n (s / 2) (λ k. rw (← (suc-out k)) (e (suc k))))
+    ap₂ plus (ap (λ (x : ℕ). s % 2 * x) (rw (add-zero i) at (e 0)))
+    (combined-none r (suc i) n (s / 2) (λ k. rw (← (suc-out k)) (e (suc k))))
     ∙ ap (λ (x : ℕ). plus x 0) (mul-zero (s % 2)) ∙ plus-self 0
   where
     suc-out : (k : ℕ) → i + suc k ≡ suc i + k
@@ -119,7 +98,8 @@ unfolding timesLow
 low-zero d a b = refl
 
 -- a bit more
-pub low-step : (d n a b : ℕ) {v higher : ℕ} → higher ≡ timesLow d n (a / 2) b → v ≡ plus (a % 2 * b) (timesX d higher) → v ≡ timesLow d (suc n) a b
+pub low-step : (d n a b : ℕ) {v higher : ℕ} → higher ≡ timesLow d n (a / 2) b → v ≡ plus (a % 2 * b) (timesX d higher) → v
+    ≡ timesLow d (suc n) a b
 unfolding timesLow
 low-step d n a b e is = is ∙ ap (λ (x : ℕ). plus (a % 2 * b) (timesX d x)) e
 
@@ -146,17 +126,19 @@ half-size d pos =
     ap (λ (x : ℕ). 2 ^ x / 2) (let e : d ≡ suc (d - 1) = omega arith in e)
     ∙ ap (λ (x : ℕ). x / 2) (pow-suc 2 (d - 1)) ∙ mul-div-cancel (2 ^ (d - 1)) (let two : 0 < 2 = omega arith in two)
 
-module _ (d : ℕ) (𝓖 : Generated d) where
+module _ (d : ℕ) (𝓣 : Tested d) where
   pub timesX-below : (v : ℕ) → v < 2 ^ d → timesX d v < 2 ^ d
-  timesX-below v h = rw (x-times d (𝓖 .tested) v h) (times-below d (𝓖 .tested) 2 v)
+  timesX-below v h = rw (x-times d 𝓣 v h) (times-below d 𝓣 2 v)
 
   -- a bit times a symbol is a symbol
   pub bit-below : (s b : ℕ) → b < 2 ^ d → s % 2 * b < 2 ^ d
-  bit-below s b h = ⊎-elim (λ (z : s % 2 ≡ 0). rw (z, zero-mul b) (pow-pos d)) (λ (z : s % 2 ≡ 1). rw (z, one-mul b) h) (bit-cases (s % 2) (bit-lt s))
+  bit-below s b h = ⊎-elim (λ (z : s % 2 ≡ 0). rw (z, zero-mul b) (pow-pos d)) (λ (z : s % 2 ≡ 1). rw (z, one-mul b) h)
+      (bit-cases (s % 2) (bit-lt s))
 
   -- x times a symbol in a byte, by whether its top bit is set
   bit-low : (t m : ℕ) → t < 2 → t * m % 256 ≡ t * (m % 256)
-  bit-low t m h = ⊎-elim (λ (z : t ≡ 0). rw (z, zero-mul m) (sym (zero-mul (m % 256)))) (λ (z : t ≡ 1). rw (z, one-mul m) (sym (one-mul (m % 256)))) (bit-cases t h)
+  bit-low t m h = ⊎-elim (λ (z : t ≡ 0). rw (z, zero-mul m) (sym (zero-mul (m % 256))))
+      (λ (z : t ≡ 1). rw (z, one-mul m) (sym (one-mul (m % 256)))) (bit-cases t h)
 
   doubled-by : (v t : ℕ) → d ≤ 8 → v < 2 ^ d → v / 2 ^ (d - 1) % 2 ≡ t → plus (v * 2 % 256) (t * (modulus d % 256)) ≡ timesX d v
   unfolding timesX

@@ -1,22 +1,17 @@
--- A constant factor's doublings, and the product that is combined from them by the bits of a symbol.
+-- The product that is combined from a constant factor's doublings by the bits of a symbol.
 --
---   doublings d c        c, x·c, …, x^7·c; 0 where x^i is no symbol
 --   combined r s         the sum of those entries of r at which s has a bit
+--   combinedBy, addedBy  what stands at a place combined; what stands there, and the combined symbol of another list
+--   fourCombined         four entries so, and what the higher bits gave
 --   Short d r            in a field of at most sixteen symbols r has nothing from the fifth entry on
---   Reducer d half low   what a doubling in a byte needs: the top bit of a symbol, and the polynomial's low eight bits
+--   Reducer d half low   what a doubling in a byte needs: a degree, the top bit of a symbol, and the polynomial's low eight bits
 use mathlib.Core.Path.{_≡_}
+use mathlib.Core.Bool.{false}
 use Prim.Native.Nat.{ℕ, zero, suc, _+_, _-_, _*_, _/_, _%_, _^_, _≤_}
-use mathlib.Core.List.{List, [], _∷_}
+use mathlib.Core.List.{List}
 use lib.ListN.{getD}
-use Rattle.field.specs.Symbols.{plus, modulus, times}
-
--- n doublings from x^i·c on
-unfoldable pub doublingsFrom : ℕ → ℕ → ℕ → ℕ → List ℕ
-doublingsFrom d c i zero = []
-doublingsFrom d c i (suc n) = times d (2 ^ i) c ∷ doublingsFrom d c (suc i) n
-
-abbrev pub doublings : ℕ → ℕ → List ℕ
-doublings d c = doublingsFrom d c 0 8
+use Rattle.refusal.specs.Refusal.{badDegree}
+use Rattle.field.specs.Symbols.{plus, modulus}
 
 -- the n low bits of s, for the entries of r from i on
 unfoldable pub combinedFrom : List ℕ → ℕ → ℕ → ℕ → ℕ
@@ -26,9 +21,22 @@ combinedFrom r i (suc n) s = plus (s % 2 * getD r i 0) (combinedFrom r (suc i) n
 abbrev pub combined : List ℕ → ℕ → ℕ
 combined r s = combinedFrom r 0 8 s
 
+-- what the loops over a part of l write at its place k
+abbrev pub combinedBy : List ℕ → List ℕ → ℕ → ℕ → ℕ
+combinedBy r l at k = combined r (getD l (at + k) 0)
+
+abbrev pub addedBy : List ℕ → List ℕ → List ℕ → ℕ → ℕ → ℕ
+addedBy r w l at k = plus (getD l (at + k) 0) (combined r (getD w k 0))
+
+-- the sum of those of four entries at which s has a bit, and what the higher bits gave
+abbrev pub fourCombined : ℕ → ℕ → ℕ → ℕ → ℕ → ℕ → ℕ
+fourCombined r0 r1 r2 r3 s higher =
+    plus (s % 2 * r0) (plus (s / 2 % 2 * r1) (plus (s / 2 / 2 % 2 * r2) (plus (s / 2 / 2 / 2 % 2 * r3) higher)))
+
 abbrev pub Short : ℕ → List ℕ → Type 0
 Short d r = d ≤ 4 → (k : ℕ) → getD r (4 + k) 0 ≡ 0
 
 pub record Reducer (d half low : ℕ) : Type 0 where
+  pub degree : badDegree d ≡ false
   pub top : half ≡ 2 ^ (d - 1)
   pub rest : low ≡ modulus d % 256

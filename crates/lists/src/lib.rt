@@ -4,18 +4,15 @@
 ghost use mathlib.Core.Path.{_≡_};
 ghost use mathlib.Core.Bool.{false};
 ghost use Prim.Native.Nat.{ℕ, suc, _+_, _-_, _*_, _/_, _%_, _^_, _≤_, _<_};
-ghost use lib.ListN.{length, getD};
+ghost use lib.ListN.{length};
 ghost use Rattle.patch.specs.Patch.{patch};
 ghost use Rattle.refusal.specs.Refusal.{badDegree};
-ghost use Rattle.field.specs.Symbols.{plus, modulus, timesX, timesLow, times};
-ghost use Rattle.field.specs.Tables.{IsTable, Exponent};
-ghost use Rattle.lists.specs.Combining.{doublings, combined, Short, Reducer};
-ghost use Rattle.lists.specs.Lists.{scaled, added, multiplied, SymbolsAt};
-use field::tables::LENT;
-use field::tables::exponent_from;
-use field::tables::power_from;
-use field::tables::product_from;
-use field::tables::size;
+ghost use Rattle.field.specs.Symbols.{plus, timesX, timesLow, times};
+ghost use Rattle.field.specs.Tables.{IsTable};
+ghost use Rattle.lists.specs.Combining.{combined, combinedBy, addedBy, fourCombined, Short, Reducer};
+ghost use Rattle.lists.specs.Lists.{SymbolsAt, Adding, Multiplying, scaledAt, addedAt, multipliedAt};
+use field::tables;
+use field::tables::Table;
 
 // A bit times a byte.
 fn masked(bit: u8, x: u8) -> u8
@@ -25,45 +22,9 @@ fn masked(bit: u8, x: u8) -> u8
     if bit == 0 { 0 } else { x }
 }
 
-// x^i times the symbol c, whose exponent is e.
-fn doubling(table: &[u8; LENT], degree: u32, c: u8, e: usize, i: u32) -> u8
-    requires { ⌜ badDegree degree ≡ false ⌝ }
-    requires { ⌜ IsTable degree (now table) ⌝ }
-    requires { ⌜ Exponent degree c e ⌝ }
-    ensures { λ r. ⌜ r ≡ times degree (2 ^ i) c ⌝ }
-{
-    if degree <= i {
-        return 0;
-    }
-    power_from(table, degree, i as usize + e)
-}
-
-// The doublings of a constant factor.
-fn doublings_of(table: &[u8; LENT], degree: u32, c: u8) -> [u8; 8]
-    requires { ⌜ badDegree degree ≡ false ⌝ }
-    requires { ⌜ IsTable degree (now table) ⌝ }
-    requires { ⌜ c < 2 ^ degree ⌝ }
-    ensures { λ r. ⌜ r ≡ doublings degree c ⌝ }
-{
-    if c == 0 {
-        return [0u8; 8];
-    }
-    let e = exponent_from(table, degree, c);
-    [
-        doubling(table, degree, c, e, 0),
-        doubling(table, degree, c, e, 1),
-        doubling(table, degree, c, e, 2),
-        doubling(table, degree, c, e, 3),
-        doubling(table, degree, c, e, 4),
-        doubling(table, degree, c, e, 5),
-        doubling(table, degree, c, e, 6),
-        doubling(table, degree, c, e, 7),
-    ]
-}
-
 // Four doublings combined by the four low bits of a symbol, and what the higher bits gave.
 fn combine_four(r0: u8, r1: u8, r2: u8, r3: u8, s: u8, higher: u8) -> u8
-    ensures { λ v. ⌜ v ≡ plus (s % 2 * r0) (plus (s / 2 % 2 * r1) (plus (s / 2 / 2 % 2 * r2) (plus (s / 2 / 2 / 2 % 2 * r3) higher))) ⌝ }
+    ensures { λ v. ⌜ v ≡ fourCombined r0 r1 r2 r3 s higher ⌝ }
 {
     let s1 = s / 2;
     let s2 = s1 / 2;
@@ -87,7 +48,9 @@ fn combine(degree: u32, r: &[u8; 8], s: u8) -> u8
 fn add_combined(degree: u32, r: &[u8; 8], w: &[u8], s: &mut [u8], at: usize)
     requires { ⌜ Short degree (now r) ⌝ }
     requires { ⌜ at + length (now w) ≤ length (now s) ⌝ }
-    ensures { λ _. ⌜ now (s .exit) ≡ patch at (length (now (w .entry))) (λ k. plus (getD (now (s .entry)) (at + k) 0) (combined (now (r .entry)) (getD (now (w .entry)) k 0))) (now (s .entry)) ⌝ }
+    ensures { λ _.
+        ⌜ now (s .exit)
+        ≡ patch at (length (now (w .entry))) (addedBy (now (r .entry)) (now (w .entry)) (now (s .entry)) at) (now (s .entry)) ⌝ }
 {
     let mut i = 0;
     while i < w.len() {
@@ -100,7 +63,7 @@ fn add_combined(degree: u32, r: &[u8; 8], w: &[u8], s: &mut [u8], at: usize)
 fn combine_all(degree: u32, r: &[u8; 8], s: &mut [u8], at: usize, n: usize)
     requires { ⌜ Short degree (now r) ⌝ }
     requires { ⌜ at + n ≤ length (now s) ⌝ }
-    ensures { λ _. ⌜ now (s .exit) ≡ patch at n (λ k. combined (now (r .entry)) (getD (now (s .entry)) (at + k) 0)) (now (s .entry)) ⌝ }
+    ensures { λ _. ⌜ now (s .exit) ≡ patch at n (combinedBy (now (r .entry)) (now (s .entry)) at) (now (s .entry)) ⌝ }
 {
     let mut i = 0;
     while i < n {
@@ -110,15 +73,15 @@ fn combine_all(degree: u32, r: &[u8; 8], s: &mut [u8], at: usize, n: usize)
 }
 
 // Adds c times the symbols of w to the part of s at `at`, by doublings: for lists of whole sixteens.
-fn add_sixteens(table: &[u8; LENT], degree: u32, c: u8, w: &[u8], s: &mut [u8], at: usize)
-    requires { ⌜ (badDegree degree ≡ false) × IsTable degree (now table) × (c < 2 ^ degree) ⌝ }
-    requires { ⌜ at + length (now w) ≤ length (now s) ⌝ }
-    ensures { λ _. ⌜ now (s .exit) ≡ patch at (length (now (w .entry))) (added degree c (now (w .entry)) (now (s .entry)) at) (now (s .entry)) ⌝ }
+fn add_sixteens(table: &Table, degree: u32, c: u8, w: &[u8], s: &mut [u8], at: usize)
+    requires { ⌜ IsTable degree (now table) ⌝ }
+    requires { ⌜ Adding degree c (now w) (now s) at ⌝ }
+    ensures { λ _. ⌜ now (s .exit) ≡ addedAt degree c (now (w .entry)) (now (s .entry)) at ⌝ }
 {
     if w.len() == 0 {
         return;
     }
-    let r = doublings_of(table, degree, c);
+    let r = tables::doublings_from(table, degree, c);
     add_combined(degree, &r, w, s, at);
 }
 
@@ -127,27 +90,27 @@ fn symbol_of(degree: u32, x: u8) -> u8
     requires { ⌜ badDegree degree ≡ false ⌝ }
     ensures { λ r. ⌜ r ≡ x % 2 ^ degree ⌝ }
 {
-    (x as usize % size(degree)) as u8
+    (x as usize % tables::size(degree)) as u8
 }
 
 // The same, from the table: quicker for a few symbols.
-fn add_few(table: &[u8; LENT], degree: u32, c: u8, w: &[u8], s: &mut [u8], at: usize)
-    requires { ⌜ (badDegree degree ≡ false) × IsTable degree (now table) × (c < 2 ^ degree) ⌝ }
-    requires { ⌜ at + length (now w) ≤ length (now s) ⌝ }
-    ensures { λ _. ⌜ now (s .exit) ≡ patch at (length (now (w .entry))) (added degree c (now (w .entry)) (now (s .entry)) at) (now (s .entry)) ⌝ }
+fn add_few(table: &Table, degree: u32, c: u8, w: &[u8], s: &mut [u8], at: usize)
+    requires { ⌜ IsTable degree (now table) ⌝ }
+    requires { ⌜ Adding degree c (now w) (now s) at ⌝ }
+    ensures { λ _. ⌜ now (s .exit) ≡ addedAt degree c (now (w .entry)) (now (s .entry)) at ⌝ }
 {
     let mut i = 0;
     while i < w.len() {
-        s[at + i] = s[at + i] ^ product_from(table, degree, symbol_of(degree, w[i]), c);
+        s[at + i] = s[at + i] ^ tables::product_from(table, degree, symbol_of(degree, w[i]), c);
         i += 1;
     }
 }
 
 // For the crates above: adds c times the symbols of w to the part of s at `at`, quickest for lists of whole sixteens.
-pub fn add_times(table: &[u8; LENT], degree: u32, c: u8, w: &[u8], s: &mut [u8], at: usize)
+pub fn add_times(table: &Table, degree: u32, c: u8, w: &[u8], s: &mut [u8], at: usize)
     requires { ⌜ (badDegree degree ≡ false) × IsTable degree (now table) × (c < 2 ^ degree) ⌝ }
     requires { ⌜ at + length (now w) ≤ length (now s) ⌝ }
-    ensures { λ _. ⌜ now (s .exit) ≡ patch at (length (now (w .entry))) (added degree c (now (w .entry)) (now (s .entry)) at) (now (s .entry)) ⌝ }
+    ensures { λ _. ⌜ now (s .exit) ≡ addedAt degree c (now (w .entry)) (now (s .entry)) at ⌝ }
 {
     let many = w.len() / 16 * 16;
     add_sixteens(table, degree, c, &w[..many], s, at);
@@ -155,18 +118,18 @@ pub fn add_times(table: &[u8; LENT], degree: u32, c: u8, w: &[u8], s: &mut [u8],
 }
 
 // For the crates above: the part of s at `at`, n symbols, becomes c times what it was.
-pub fn scale(table: &[u8; LENT], degree: u32, c: u8, s: &mut [u8], at: usize, n: usize)
+pub fn scale(table: &Table, degree: u32, c: u8, s: &mut [u8], at: usize, n: usize)
     requires { ⌜ (badDegree degree ≡ false) × IsTable degree (now table) × (c < 2 ^ degree) ⌝ }
     requires { ⌜ at + n ≤ length (now s) ⌝ }
-    ensures { λ _. ⌜ now (s .exit) ≡ patch at n (scaled degree c (now (s .entry)) at) (now (s .entry)) ⌝ }
+    ensures { λ _. ⌜ now (s .exit) ≡ scaledAt degree c (now (s .entry)) at n ⌝ }
 {
-    let r = doublings_of(table, degree, c);
+    let r = tables::doublings_from(table, degree, c);
     combine_all(degree, &r, s, at, n);
 }
 
 // x times a symbol.
 fn double(degree: u32, half: u8, low: u8, v: u8) -> u8
-    requires { ⌜ (badDegree degree ≡ false) × Reducer degree half low × (v < 2 ^ degree) ⌝ }
+    requires { ⌜ Reducer degree half low × (v < 2 ^ degree) ⌝ }
     ensures { λ r. ⌜ r ≡ timesX degree v ⌝ }
 {
     if v < half { v << 1 } else { (v << 1) ^ low }
@@ -174,7 +137,7 @@ fn double(degree: u32, half: u8, low: u8, v: u8) -> u8
 
 // A bit of a product: the low bit of w times s, and x times the sum of the higher ones.
 fn bit_more(degree: u32, half: u8, low: u8, w: u8, s: u8, higher: u8) -> u8
-    requires { ⌜ (badDegree degree ≡ false) × Reducer degree half low ⌝ }
+    requires { ⌜ Reducer degree half low ⌝ }
     requires { ⌜ (s < 2 ^ degree) × (higher < 2 ^ degree) ⌝ }
     ensures { λ r. ⌜ (r ≡ plus (w % 2 * s) (timesX degree higher)) × (r < 2 ^ degree) ⌝ }
 {
@@ -183,9 +146,11 @@ fn bit_more(degree: u32, half: u8, low: u8, w: u8, s: u8, higher: u8) -> u8
 
 // Four bits of a product: those of w times s, and x^4 times the sum of the higher ones.
 fn four_more(degree: u32, half: u8, low: u8, w: u8, s: u8, higher: u8) -> u8
-    requires { ⌜ (badDegree degree ≡ false) × Reducer degree half low ⌝ }
+    requires { ⌜ Reducer degree half low ⌝ }
     requires { ⌜ (s < 2 ^ degree) × (higher < 2 ^ degree) ⌝ }
-    ensures { λ r. ⌜ (r < 2 ^ degree) × ((n : ℕ) → higher ≡ timesLow degree n (w / 2 / 2 / 2 / 2) s → r ≡ timesLow degree (suc (suc (suc (suc n)))) w s) ⌝ }
+    ensures { λ r.
+        ⌜ (r < 2 ^ degree)
+        × ((n : ℕ) → higher ≡ timesLow degree n (w / 2 / 2 / 2 / 2) s → r ≡ timesLow degree (suc (suc (suc (suc n)))) w s) ⌝ }
 {
     let w1 = w / 2;
     let w2 = w1 / 2;
@@ -198,7 +163,7 @@ fn four_more(degree: u32, half: u8, low: u8, w: u8, s: u8, higher: u8) -> u8
 
 // The product of two symbols, bit by bit.
 fn product_by_bits(degree: u32, half: u8, low: u8, w: u8, s: u8) -> u8
-    requires { ⌜ (badDegree degree ≡ false) × Reducer degree half low ⌝ }
+    requires { ⌜ Reducer degree half low ⌝ }
     requires { ⌜ (w < 2 ^ degree) × (s < 2 ^ degree) ⌝ }
     ensures { λ r. ⌜ r ≡ times degree w s ⌝ }
 {
@@ -209,20 +174,11 @@ fn product_by_bits(degree: u32, half: u8, low: u8, w: u8, s: u8) -> u8
     four_more(degree, 128, low, w, s, higher)
 }
 
-// The polynomial without x^8, whatever its degree: what a doubling in a byte takes off.
-fn low_bits(table: &[u8; LENT], degree: u32) -> u8
-    requires { ⌜ (badDegree degree ≡ false) × IsTable degree (now table) ⌝ }
-    ensures { λ r. ⌜ r ≡ modulus degree % 256 ⌝ }
-{
-    power_from(table, degree, degree as usize) ^ (size(degree) % 256) as u8
-}
-
 // Multiplies the part of s at `at`, each symbol with b added, by the symbols of w with a added.
 fn multiply_by_bits(degree: u32, half: u8, low: u8, w: &[u8], a: u8, s: &mut [u8], at: usize, b: u8)
-    requires { ⌜ (badDegree degree ≡ false) × Reducer degree half low × (a < 2 ^ degree) × (b < 2 ^ degree) ⌝ }
-    requires { ⌜ at + length (now w) ≤ length (now s) ⌝ }
-    requires { ⌜ SymbolsAt degree (now w) 0 (length (now w)) × SymbolsAt degree (now s) at (length (now w)) ⌝ }
-    ensures { λ _. ⌜ now (s .exit) ≡ patch at (length (now (w .entry))) (multiplied degree (now (w .entry)) a (now (s .entry)) at b) (now (s .entry)) ⌝ }
+    requires { ⌜ Reducer degree half low ⌝ }
+    requires { ⌜ Multiplying degree (now w) a (now s) at b ⌝ }
+    ensures { λ _. ⌜ now (s .exit) ≡ multipliedAt degree (now (w .entry)) a (now (s .entry)) at b ⌝ }
 {
     let mut i = 0;
     while i < w.len() {
@@ -232,22 +188,21 @@ fn multiply_by_bits(degree: u32, half: u8, low: u8, w: &[u8], a: u8, s: &mut [u8
 }
 
 // The same, from the table: quicker for a few symbols.
-fn multiply_few(table: &[u8; LENT], degree: u32, w: &[u8], a: u8, s: &mut [u8], at: usize, b: u8)
-    requires { ⌜ (badDegree degree ≡ false) × IsTable degree (now table) × (a < 2 ^ degree) × (b < 2 ^ degree) ⌝ }
-    requires { ⌜ at + length (now w) ≤ length (now s) ⌝ }
-    requires { ⌜ SymbolsAt degree (now w) 0 (length (now w)) × SymbolsAt degree (now s) at (length (now w)) ⌝ }
-    ensures { λ _. ⌜ now (s .exit) ≡ patch at (length (now (w .entry))) (multiplied degree (now (w .entry)) a (now (s .entry)) at b) (now (s .entry)) ⌝ }
+fn multiply_few(table: &Table, degree: u32, w: &[u8], a: u8, s: &mut [u8], at: usize, b: u8)
+    requires { ⌜ IsTable degree (now table) ⌝ }
+    requires { ⌜ Multiplying degree (now w) a (now s) at b ⌝ }
+    ensures { λ _. ⌜ now (s .exit) ≡ multipliedAt degree (now (w .entry)) a (now (s .entry)) at b ⌝ }
 {
     let mut i = 0;
     while i < w.len() {
-        s[at + i] = product_from(table, degree, w[i] ^ a, s[at + i] ^ b);
+        s[at + i] = tables::product_from(table, degree, w[i] ^ a, s[at + i] ^ b);
         i += 1;
     }
 }
 
 // For the crates above: the same, bit by bit, for lists of whole sixteens.
 pub fn multiply_sixteens(
-    table: &[u8; LENT],
+    table: &Table,
     degree: u32,
     w: &[u8],
     a: u8,
@@ -255,22 +210,20 @@ pub fn multiply_sixteens(
     at: usize,
     b: u8,
 )
-    requires { ⌜ (badDegree degree ≡ false) × IsTable degree (now table) × (a < 2 ^ degree) × (b < 2 ^ degree) ⌝ }
-    requires { ⌜ at + length (now w) ≤ length (now s) ⌝ }
-    requires { ⌜ SymbolsAt degree (now w) 0 (length (now w)) × SymbolsAt degree (now s) at (length (now w)) ⌝ }
-    ensures { λ _. ⌜ now (s .exit) ≡ patch at (length (now (w .entry))) (multiplied degree (now (w .entry)) a (now (s .entry)) at b) (now (s .entry)) ⌝ }
+    requires { ⌜ IsTable degree (now table) ⌝ }
+    requires { ⌜ Multiplying degree (now w) a (now s) at b ⌝ }
+    ensures { λ _. ⌜ now (s .exit) ≡ multipliedAt degree (now (w .entry)) a (now (s .entry)) at b ⌝ }
 {
-    let half = (size(degree) / 2) as u8;
-    let low = low_bits(table, degree);
+    let half = (tables::size(degree) / 2) as u8;
+    let low = tables::low_bits_from(table, degree);
     multiply_by_bits(degree, half, low, w, a, s, at, b);
 }
 
 // The same, where an empty list is to cost nothing.
-fn multiply_front(table: &[u8; LENT], degree: u32, w: &[u8], a: u8, s: &mut [u8], at: usize, b: u8)
-    requires { ⌜ (badDegree degree ≡ false) × IsTable degree (now table) × (a < 2 ^ degree) × (b < 2 ^ degree) ⌝ }
-    requires { ⌜ at + length (now w) ≤ length (now s) ⌝ }
-    requires { ⌜ SymbolsAt degree (now w) 0 (length (now w)) × SymbolsAt degree (now s) at (length (now w)) ⌝ }
-    ensures { λ _. ⌜ now (s .exit) ≡ patch at (length (now (w .entry))) (multiplied degree (now (w .entry)) a (now (s .entry)) at b) (now (s .entry)) ⌝ }
+fn multiply_front(table: &Table, degree: u32, w: &[u8], a: u8, s: &mut [u8], at: usize, b: u8)
+    requires { ⌜ IsTable degree (now table) ⌝ }
+    requires { ⌜ Multiplying degree (now w) a (now s) at b ⌝ }
+    ensures { λ _. ⌜ now (s .exit) ≡ multipliedAt degree (now (w .entry)) a (now (s .entry)) at b ⌝ }
 {
     if w.len() == 0 {
         return;
@@ -280,11 +233,11 @@ fn multiply_front(table: &[u8; LENT], degree: u32, w: &[u8], a: u8, s: &mut [u8]
 
 // For the crates above: multiplies the part of s at `at`, each symbol with b added, by the symbols of w with a added; sixteens bit
 // by bit, and what is left over from the table.
-pub fn multiply(table: &[u8; LENT], degree: u32, w: &[u8], a: u8, s: &mut [u8], at: usize, b: u8)
+pub fn multiply(table: &Table, degree: u32, w: &[u8], a: u8, s: &mut [u8], at: usize, b: u8)
     requires { ⌜ (badDegree degree ≡ false) × IsTable degree (now table) × (a < 2 ^ degree) × (b < 2 ^ degree) ⌝ }
     requires { ⌜ at + length (now w) ≤ length (now s) ⌝ }
     requires { ⌜ SymbolsAt degree (now w) 0 (length (now w)) × SymbolsAt degree (now s) at (length (now w)) ⌝ }
-    ensures { λ _. ⌜ now (s .exit) ≡ patch at (length (now (w .entry))) (multiplied degree (now (w .entry)) a (now (s .entry)) at b) (now (s .entry)) ⌝ }
+    ensures { λ _. ⌜ now (s .exit) ≡ multipliedAt degree (now (w .entry)) a (now (s .entry)) at b ⌝ }
 {
     let many = w.len() / 16 * 16;
     multiply_front(table, degree, &w[..many], a, s, at, b);

@@ -9,11 +9,11 @@ ghost use Rattle.mark.specs.Code.{IsMessage, codeOf, encoded};
 ghost use Rattle.mark.specs.Checks.{codeChecks, encodeChecks};
 use crate::checks;
 use field::tables;
-use field::tables::LENT;
+use field::tables::Table;
 
 // Row after row, at the front of s: the values at the points of the row's part of the message.
 fn write_rows(
-    table: &[u8; LENT],
+    table: &Table,
     degree: u32,
     lengths: &[u8],
     points: &[u8],

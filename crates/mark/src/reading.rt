@@ -17,7 +17,7 @@ ghost use Rattle.mark.specs.Code.{CodeArray, IsArray, IsMessage, codeOf,
 ghost use Rattle.mark.specs.Checks.{codeChecks, readChecks};
 use crate::checks;
 use field::tables;
-use field::tables::LENT;
+use field::tables::Table;
 
 // For the crates above: whether all symbols are zero.
 pub fn all_zero(s: &[u8]) -> bool
@@ -36,7 +36,7 @@ pub fn all_zero(s: &[u8]) -> bool
 // The polynomial of a row's first k divided differences, in s from `at` on, and whether the reduced values are all zero; ws
 // are the inverses of the rounds.
 fn read_row(
-    table: &[u8; LENT],
+    table: &Table,
     degree: u32,
     points: &[u8],
     k: usize,
@@ -61,7 +61,7 @@ fn read_row(
 // Row after row, at the front of s: the message of a code array, ws being the inverses of the longest row's rounds. Answers
 // whether the array is one.
 fn read_rows(
-    table: &[u8; LENT],
+    table: &Table,
     degree: u32,
     lengths: &[u8],
     points: &[u8],
@@ -102,7 +102,7 @@ fn read_rows(
 
 // The message of a code array, at the front of s. Answers whether the array is one.
 fn read_array(
-    table: &[u8; LENT],
+    table: &Table,
     degree: u32,
     lengths: &[u8],
     points: &[u8],

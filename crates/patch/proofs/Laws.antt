@@ -67,7 +67,8 @@ pub patch-append : {A : Type 0} (at m n : ℕ) (f g : ℕ → A) (l : List A) �
 unfolding patch
 patch-append {A} at m zero f g l e = rw (add-zero m)
 patch-append {A} at m (suc n) f g l e =
-    rw (add-suc m n) (rw (← add-assoc at m n) (ap₂ (λ (s : List A) (v : A). set s (at + m + n) v) (patch-append at m n f g l (λ k h. e k (omega arith))) (e n (omega arith))))
+    rw (add-suc m n) (rw (← add-assoc at m n)
+    (ap₂ (λ (s : List A) (v : A). set s (at + m + n) v) (patch-append at m n f g l (λ k h. e k (omega arith))) (e n (omega arith))))
 
 pub patch-kept : {A : Type 0} (at m n : ℕ) (f : ℕ → A) (l : List A) (d : A) → ((k : ℕ) → k < n → f (m + k) ≡ getD l (at + (m + k)) d)
     → patch at (m + n) f l ≡ patch at m f l
@@ -77,7 +78,8 @@ patch-kept {A} at m (suc n) f l d e =
     let same : f (m + n) ≡ getD (patch at (m + n) f l) (at + (m + n)) d =
     e n (omega arith) ∙ sym (patch-above at f l (m + n) (at + (m + n)) d (le-refl (at + (m + n)))) in
     rw (add-suc m n)
-    (ap (set (patch at (m + n) f l) (at + (m + n))) same ∙ set-getD (patch at (m + n) f l) (at + (m + n)) d ∙ patch-kept at m n f l d (λ k h. e k (omega arith)))
+    (ap (set (patch at (m + n) f l) (at + (m + n))) same ∙ set-getD (patch at (m + n) f l) (at + (m + n)) d
+    ∙ patch-kept at m n f l d (λ k h. e k (omega arith)))
 
 module _ {A : Type 0} (at i : ℕ) (f : ℕ → A) (l : List A) {s : List A} (is : s ≡ patch at i f l) where
   pub patch-step : {v : A} → v ≡ f i → set s (at + i) v ≡ patch at (i + 1) f l

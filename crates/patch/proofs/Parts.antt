@@ -108,7 +108,8 @@ lay-end at v l e =
     is-lay at v l (take at l ++ v) (omega arith) (length-append (take at l) v ∙ omega arith)
     (λ i h. List·getD-append (take at l) v 0 i (omega arith) ∙ getD-take at l i 0 h)
     (λ k h. ap (λ (x : ℕ). getD (take at l ++ v) (x + k) 0) (sym size) ∙ getD-append-add (take at l) v k 0)
-    (λ i h. List·getD-eq-default (take at l ++ v) 0 (omega (arith, length-append (take at l) v)) ∙ sym (List·getD-eq-default l 0 (omega arith)))
+    (λ i h. List·getD-eq-default (take at l ++ v) 0 (omega (arith, length-append (take at l) v))
+    ∙ sym (List·getD-eq-default l 0 (omega arith)))
 
 pub lay-cons : (at c : ℕ) (v l : List ℕ) → at + suc (length v) ≤ length l → lay (at + 1) v (set l at c) ≡ lay at (c ∷ v) l
 lay-cons at c v l fits =
@@ -196,7 +197,16 @@ lay-rest at v l {s} fits is = is-lay at v l (take at l ++ (s ++ none)) fits whol
     size = ap length is ∙ length-lay 0 v rest ∙ left
 
     whole : length (take at l ++ (s ++ none)) ≡ length l
-    whole = omega (arith, length-append (take at l) (s ++ none), length-append s none, front, size, length-drop (length l - at) (drop at l), length-drop at l)
+    whole = omega (
+      arith,
+      length-append (take at l) (s ++ none),
+      length-append s none,
+      front,
+      size,
+      length-drop (length l - at)
+          (drop at l),
+      length-drop at l,
+    )
 
     below : (i : ℕ) → i < at → getD (take at l ++ (s ++ none)) i 0 ≡ getD l i 0
     below i h = List·getD-append (take at l) (s ++ none) 0 i (omega (arith, front)) ∙ getD-take at l i 0 h
@@ -210,7 +220,8 @@ lay-rest at v l {s} fits is = is-lay at v l (take at l ++ (s ++ none)) fits whol
         ∙ ap (λ (t : List ℕ). getD t k 0) is
 
     inside : (k : ℕ) → k < length v → getD (take at l ++ (s ++ none)) (at + k) 0 ≡ getD v k 0
-    inside k h = behind-front k (omega arith) ∙ ap (λ (j : ℕ). getD (lay 0 v rest) j 0) (sym (zero-add k)) ∙ lay-inside 0 v rest k h (omega (arith, left))
+    inside k h = behind-front k (omega arith) ∙ ap (λ (j : ℕ). getD (lay 0 v rest) j 0) (sym (zero-add k))
+        ∙ lay-inside 0 v rest k h (omega (arith, left))
 
     above : (i : ℕ) → at + length v ≤ i → getD (take at l ++ (s ++ none)) i 0 ≡ getD l i 0
     above i h = go (decLt i (length l))

@@ -3,12 +3,12 @@
 --   loc W           Π (x − w), over the points w of W
 --   poly-loc        it has one coefficient more than W has points
 --   loc-nonzero     it is not zero
---   loc-roots       its roots are the points of W
+--   loc-mem, mem-loc    its roots are the points of W
 --   loc-divides     a polynomial that vanishes at distinct points W is loc W times another
 --   loc-multiple    one with a coefficient more than W has points is a multiple of loc W by a symbol
 -- Assumes nothing.
 use mathlib.Core.Path.{_≡_, refl, sym, ap, _∙_}
-use mathlib.Core.Logic.{inl, inr, _↔_}
+use mathlib.Core.Logic.{inl, inr}
 use mathlib.Core.List.{List, [], _∷_}
 use Prim.Native.Nat.{zero, suc, _-_, _<_}
 use native.Mathlib.Omega.{arith}
@@ -74,9 +74,6 @@ module _ {K : Type 0} (A : Arithmetic K) (𝓕 : Field A) where
   unfolding loc
   mem-loc x [] i s r = 𝓕 .one-zero (sym (value-const A 𝓕 𝟏 x) ∙ r)
   mem-loc x (w ∷ W) i s r = mem-cons x w W i (s .0) (mem-loc x W i (s .1)) r
-
-  pub loc-roots : (x : K) (W : List K) → In x → All In W → (value A (loc A W) x ≡ 𝟎) ↔ Mem x W
-  loc-roots x W i s = (mem-loc x W i s, loc-mem x W)
 
   pub loc-divides : (W p : List K) → Distinct W → All In W → All In p → length W < length p → Vanishes A p W
       → (q : List K) × Poly A (length p - length W) q × (p ≡ mul A (loc A W) q)

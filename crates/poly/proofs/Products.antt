@@ -15,7 +15,8 @@ use Rattle.field.specs.Arithmetic.{Arithmetic}
 use Rattle.field.proofs.Laws.{Field}
 use Rattle.poly.specs.Poly.{All, Zero, add, scale, mul}
 use Rattle.poly.proofs.Ring.{plus-zero, zero-plus, times-comm, times-zero}
-use Rattle.poly.proofs.Sums.{sums, length-add, length-scale, symbols-add, symbols-scale, add-nil, add-comm, add-left-comm, add-assoc, scale-add, plus-scale, scale-scale, zero-scale, add-zero}
+use Rattle.poly.proofs.Sums.{sums, length-add, length-scale, symbols-add, symbols-scale, add-nil, add-comm}
+use Rattle.poly.proofs.Sums.{add-left-comm, add-assoc, scale-add, plus-scale, scale-scale, zero-scale, add-zero}
 
 module _ {K : Type 0} (A : Arithmetic K) (𝓕 : Field A) where
   infixl 70 _⊗_

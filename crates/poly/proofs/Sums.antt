@@ -15,7 +15,8 @@ use lib.ListN.{length}
 use Rattle.field.specs.Arithmetic.{Arithmetic}
 use Rattle.field.proofs.Laws.{Field}
 use Rattle.poly.specs.Poly.{All, Zero, Poly, add, scale}
-use Rattle.poly.proofs.Ring.{plus-comm, plus-assoc, zero-plus, plus-self, plus-times, times-plus, times-assoc, zero-times, times-zero, plus-cancel, one-times}
+use Rattle.poly.proofs.Ring.{plus-comm, plus-assoc, zero-plus, plus-self, plus-times, times-plus}
+use Rattle.poly.proofs.Ring.{times-assoc, zero-times, times-zero, plus-cancel, one-times}
 
 module _ {K : Type 0} (A : Arithmetic K) (𝓕 : Field A) where
   infixl 65 _⊕_

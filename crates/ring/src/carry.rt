@@ -15,7 +15,7 @@ ghost use Rattle.ring.specs.Ring.{ArrayOf, IsRing, column, numbers, ring
 ghost use Rattle.ring.specs.Checks.{badSize};
 use crate::shape;
 use field::tables;
-use field::tables::LENT;
+use field::tables::Table;
 
 // The columns of r rows of n symbols, one after the other.
 fn turn(r: usize, n: usize, from: &[u8], to: &mut [u8])
@@ -31,7 +31,7 @@ fn turn(r: usize, n: usize, from: &[u8], to: &mut [u8])
 }
 
 // The coefficients of the polynomial that has the values v at the points ys, in s from `at` on.
-fn interpolate(table: &[u8; LENT], q: u32, ys: &[u8], v: &[u8], s: &mut [u8], at: usize)
+fn interpolate(table: &Table, q: u32, ys: &[u8], v: &[u8], s: &mut [u8], at: usize)
     requires { ⌜ (badSize q ≡ false) × IsTable q (now table) × Points q (now ys) ⌝ }
     requires { ⌜ (length (now ys) ≡ q) × (length (now v) ≡ q) × (at + q ≤ length (now s)) ⌝ }
     requires { ⌜ All (IsSymbol q) (now v) ⌝ }
@@ -44,7 +44,7 @@ fn interpolate(table: &[u8; LENT], q: u32, ys: &[u8], v: &[u8], s: &mut [u8], at
 }
 
 // Sector after sector, the values at its y of the polynomial whose coefficients stand at the sector's places of the columns.
-fn values_of(table: &[u8; LENT], q: u32, ys: &[u8], columns: &[u8], ring: &mut [u8])
+fn values_of(table: &Table, q: u32, ys: &[u8], columns: &[u8], ring: &mut [u8])
     requires { ⌜ (badSize q ≡ false) × IsTable q (now table) × (now ys ≡ flatMap (sector q) (numbers (q * q))) ⌝ }
     requires { ⌜ IsRing q (now columns) × (q * q * q ≤ length (now ring)) ⌝ }
     ensures { λ _. ⌜ now (ring .exit) ≡ lay 0 (flatMap (λ x. valuesAt (gf q) (sector q x) (part (x * q) q (now (columns .entry)))) (numbers (q * q))) (now (ring .entry)) ⌝ }
@@ -59,7 +59,7 @@ fn values_of(table: &[u8; LENT], q: u32, ys: &[u8], columns: &[u8], ring: &mut [
 }
 
 // Sector after sector, the coefficients of the polynomial that has the ring's symbols as its values at the sector's y.
-fn columns_of(table: &[u8; LENT], q: u32, ys: &[u8], ring: &[u8], columns: &mut [u8])
+fn columns_of(table: &Table, q: u32, ys: &[u8], ring: &[u8], columns: &mut [u8])
     requires { ⌜ (badSize q ≡ false) × IsTable q (now table) × (now ys ≡ flatMap (sector q) (numbers (q * q))) ⌝ }
     requires { ⌜ IsRing q (now ring) × (q * q * q ≤ length (now columns)) ⌝ }
     ensures { λ _. ⌜ now (columns .exit) ≡ lay 0 (flatMap (λ x. fromNewton (gf q) q (sector q x) (reduce (gf q) q (sector q x) (part (x * q) q (now (ring .entry))))) (numbers (q * q))) (now (columns .entry)) ⌝ }

@@ -3,8 +3,9 @@
 --   rest d xs us j x     the value at x of the Newton form from coefficient j on
 --   inner d xs us j x    the same times x less the node before: what the loop has when it comes to coefficient j − 1
 --   values-start, values-step, values-end    the row before the first turn, a turn, and the row that comes out
---   values-in            on the way it has symbols
---   zeros, symbols-zero    zeros are zeros, and symbols
+--   values-fit, values-in    on the way it has room for them, and symbols
+--   Evaluating           what all this asks for
+--   zeros                zeros are zeros
 --   plain-values         where all nodes are zero the Newton coefficients are the coefficients
 -- Assumes nothing.
 use mathlib.Core.Path.{_≡_, refl, sym, ap, ap₂, _∙_}
@@ -17,15 +18,17 @@ use lib.ListN.{length, getD, drop, replicate, length-map}
 use lib.Seq.{drop-cons}
 use Rattle.patch.specs.Patch.{patch}
 use Rattle.patch.specs.Parts.{lay}
+use Rattle.patch.proofs.Laws.{length-patch}
 use Rattle.patch.proofs.Parts.{length-lay, lay-inside, lay-again, patch-is-lay}
 use Rattle.refusal.specs.Refusal.{badDegree}
-use Rattle.field.specs.Symbols.{plus, times}
-use Rattle.lists.specs.Lists.{multiplied, SymbolsAt}
+use Rattle.field.specs.Symbols.{IsSymbol, plus, times}
+use Rattle.lists.specs.Lists.{multiplied, multipliedAt, SymbolsAt}
 use Rattle.field.specs.Arithmetic.{Arithmetic, gf}
 use Rattle.field.proofs.Laws.{Field}
 use Rattle.field.proofs.Instance.{field}
 use Rattle.poly.specs.Poly.{All, Zero, value, valuesAt}
 use Rattle.poly.proofs.Forms.{newtonValue}
+use Rattle.rows.specs.Rows.{constantAdded, newtonValues}
 use Rattle.poly.proofs.Ring.{plus-zero, plus-comm, times-zero}
 
 -- ---- values at points, laid in a list
@@ -93,47 +96,62 @@ module _ (d : ℕ) (good : badDegree d ≡ false) (nodes us : List ℕ) (enough 
       let two : j - 2 ≡ j - 1 - 1 = omega arith in
       ap₂ (λ (i u : ℕ). times d (plus x (getD nodes i 0)) u) two (rw e (rest-less j x (omega arith) k))
 
-  module _ (at : ℕ) (xs l : List ℕ) (fits : at + length xs ≤ length l) where
-    pub values-start : {s : List ℕ} → s ≡ patch at (length xs) (λ i. 0) l → s ≡ lay at (map (inner d nodes us (length us)) xs) s
-    values-start {s} is =
-        let f = inner d nodes us (length us) in
-        let first : s ≡ lay at (map f xs) l = map-patch at xs l fits (λ i. 0) f is (λ i h. sym (inner-start (getD xs i 0))) in
-        first ∙ sym (map-again at xs l fits f f first)
+-- what evaluation at xs, in l from at on, asks for
+pub record Evaluating (d : ℕ) (xs nodes us l : List ℕ) (at : ℕ) : Type 0 where
+  pub degree : badDegree d ≡ false
+  pub points : All (IsSymbol d) xs
+  pub nodes-in : All (IsSymbol d) nodes
+  pub coefficients : All (IsSymbol d) us
+  pub some : 0 < length us
+  pub enough : length us ≤ length nodes
+  pub room : at + length xs ≤ length l
+
+module _ {d : ℕ} {xs nodes us e : List ℕ} {at : ℕ} (g : Evaluating d xs nodes us e at) where
+  pub values-start : {s : List ℕ} → s ≡ patch at (length xs) (λ i. 0) e → s ≡ lay at (map (inner d nodes us (length us)) xs) s
+  values-start {s} is =
+      let f = inner d nodes us (length us) in
+      let first : s ≡ lay at (map f xs) e =
+      map-patch at xs e (g .room) (λ i. 0) f is (λ i h. sym (inner-start d (g .degree) nodes us (g .enough) (getD xs i 0))) in
+      first ∙ sym (map-again at xs e (g .room) f f first)
+
+  -- l being the cleared list
+  module _ {l : List ℕ} (cleared : l ≡ patch at (length xs) (λ i. 0) e) where
+    fits : at + length xs ≤ length l
+    fits = omega (arith, g .room, ap length cleared ∙ length-patch at (λ i. 0) e (length xs))
+
+    pub values-fit : (j : ℕ) {s : List ℕ} → s ≡ lay at (map (inner d nodes us j) xs) l → at + length xs ≤ length s
+    values-fit j is = rw (is, length-lay) fits
 
     pub values-in : (j : ℕ) {s : List ℕ} → s ≡ lay at (map (inner d nodes us j) xs) l → SymbolsAt d s at (length xs)
-    values-in j is i h = rw (map-lay at xs l fits (inner d nodes us j) is i h) (inner-in j (getD xs i 0))
+    values-in j is i h =
+        rw (map-lay at xs l fits (inner d nodes us j) is i h) (inner-in d (g .degree) nodes us (g .enough) j (getD xs i 0))
 
     pub values-step : (j : ℕ) {s t : List ℕ} → 1 < j → j ≤ length us → s ≡ lay at (map (inner d nodes us j) xs) l
-        → t ≡ patch at (length xs) (multiplied d xs (getD nodes (j - 2) 0) s at (getD us (j - 1) 0)) s
-        → t ≡ lay at (map (inner d nodes us (j - 1)) xs) l
+        → t ≡ multipliedAt d xs (getD nodes (j - 2) 0) s at (getD us (j - 1) 0) → t ≡ lay at (map (inner d nodes us (j - 1)) xs) l
     unfolding multiplied
-    values-step j {s} {t} h k is then =
+    values-step j {s} h k is then =
         let f = inner d nodes us j in
-        let g = inner d nodes us (j - 1) in
-        let long : length s ≡ length l = rw is (length-lay at (map f xs) l) in
-        map-patch at xs s (omega arith) _ g then (λ i m. inner-less j (getD xs i 0) (getD s (at + i) 0) h k (map-lay at xs l fits f is i m))
-        ∙ map-again at xs l fits f g is
+        map-patch at xs s (values-fit j is) _ _ then
+        (λ i m. inner-less d (g .degree) nodes us (g .enough) j _ (getD s (at + i) 0) h k (map-lay at xs l fits f is i m))
+        ∙ map-again at xs l fits f _ is
 
-    pub values-end : (e : List ℕ) {s t : List ℕ} → 0 < length us → length e ≡ length l → l ≡ patch at (length xs) (λ i. 0) e
-        → s ≡ lay at (map (inner d nodes us 1) xs) l
-        → t ≡ patch at (length xs) (λ i. plus (getD s (at + i) 0) (getD us 0 0)) s
-        → t ≡ lay at (map (newtonValue (gf d) (length us) nodes us) xs) e
-    values-end e {s} {t} h same start is then =
+    pub values-end : {j : ℕ} {s t : List ℕ} → j ≡ 1 → s ≡ lay at (map (inner d nodes us j) xs) l
+        → t ≡ constantAdded (getD us 0 0) s at (length xs) → t ≡ lay at (newtonValues d nodes us xs) e
+    values-end {j} {s} {t} one was then =
         let f = inner d nodes us 1 in
-        let g = newtonValue (gf d) (length us) nodes us in
-        let long : length s ≡ length l = rw is (length-lay at (map f xs) l) in
+        let v = newtonValue (gf d) (length us) nodes us in
         let z : ℕ → ℕ = λ x. 0 in
-        map-patch at xs s (omega arith) _ g then (λ i m. rw (map-lay at xs l fits f is i m) (rest-less 1 (getD xs i 0) (omega arith) h ∙ rest-whole (getD xs i 0)))
-        ∙ (map-again at xs l fits f g is ∙ map-again at xs e (omega arith) z g (map-patch at xs e (omega arith) _ z start (λ i m. refl)))
+        let is : s ≡ lay at (map f xs) l = was ∙ ap (λ (i : ℕ). lay at (map (inner d nodes us i) xs) l) one in
+        let less : (x : ℕ) → plus (f x) (getD us 0 0) ≡ v x =
+        λ x. rest-less d (g .degree) nodes us (g .enough) 1 x (omega arith) (g .some)
+        ∙ rest-whole d (g .degree) nodes us (g .enough) x in
+        map-patch at xs s (values-fit 1 is) _ v then (λ i m. rw (map-lay at xs l fits f is i m) (less (getD xs i 0)))
+        ∙ (map-again at xs l fits f v is ∙ map-again at xs e (g .room) z v (map-patch at xs e (g .room) _ z cleared (λ i m. refl)))
 
 module _ {K : Type 0} (A : Arithmetic K) (𝓕 : Field A) where
   pub zeros : (n : ℕ) → Zero A (replicate n (A .zero))
   zeros zero = tt
   zeros (suc n) = (refl, zeros n)
-
-  pub symbols-zero : (zs : List K) → Zero A zs → All (A .In) zs
-  symbols-zero [] z = tt
-  symbols-zero (a ∷ zs) z = (rw (z .0) (𝓕 .zero-in), symbols-zero zs (z .1))
 
   newton-zeros : (zs p : List K) (x : K) → Zero A zs → length p ≤ length zs → newtonValue A (length p) zs p x ≡ value A p x
   unfolding newtonValue value

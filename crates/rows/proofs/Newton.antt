@@ -19,7 +19,8 @@ use lib.Seq.{drop-cons}
 use Rattle.patch.specs.Patch.{patch}
 use Rattle.patch.specs.Parts.{part, lay}
 use Rattle.patch.proofs.Laws.{length-patch, patch-inside, patch-below, patch-above}
-use Rattle.patch.proofs.Parts.{length-lay, lay-inside, lay-below, lay-above, lay-none, lay-cons, lay-again, length-part, part-lay, laid-front, is-lay}
+use Rattle.patch.proofs.Parts.{length-lay, lay-inside, lay-below, lay-above, lay-none, lay-cons}
+use Rattle.patch.proofs.Parts.{lay-again, length-part, part-lay, laid-front, is-lay}
 use Rattle.refusal.specs.Refusal.{badDegree}
 use Rattle.field.specs.Symbols.{plus, times}
 use Rattle.lists.specs.Lists.{added}
@@ -80,7 +81,8 @@ module _ (d : ℕ) (good : badDegree d ≡ false) where
       inside k h (no g) =
           let end : getD q k 0 ≡ 0 = List·getD-eq-default q 0 (omega arith) in
           patch-above at f s n (at + k) 0 (omega arith) ∙ stood k h
-          ∙ sym (lin-at a c q k (omega arith) ∙ rw (end, times-zero (gf d) (field d good) a) (plus-zero (gf d) (field d good) (getD (c ∷ q) k 0)))
+          ∙ sym (lin-at a c q k (omega arith)
+          ∙ rw (end, times-zero (gf d) (field d good) a) (plus-zero (gf d) (field d good) (getD (c ∷ q) k 0)))
 
   -- the same as the code has it: the polynomial is stored one place up behind c, and a multiple of it added
   pub lin-stored : (at a c : ℕ) (q l : List ℕ) {s t : List ℕ} → at + (length q + 1) ≤ length l
@@ -108,7 +110,8 @@ module _ (d : ℕ) (good : badDegree d ≡ false) (nodes us : List ℕ) (enough 
   length-from : (j : ℕ) → j ≤ length us → length (newtonFrom d nodes us j) ≡ length us - j
   unfolding newtonFrom
   length-from j h =
-      length-newton (gf d) (field d good) (length us - j) (drop j nodes) (drop j us) (omega (arith, length-drop j nodes)) (omega (arith, length-drop j us))
+      length-newton (gf d) (field d good) (length us - j) (drop j nodes) (drop j us) (omega (arith, length-drop j nodes))
+      (omega (arith, length-drop j us))
 
   pub newton-start : (at : ℕ) (l : List ℕ) → l ≡ lay at (newtonFrom d nodes us (length us)) l
   unfolding newtonFrom fromNewton

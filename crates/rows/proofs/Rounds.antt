@@ -1,6 +1,6 @@
 -- Rounds of divided differences, each from the one before.
 --
---   divisor         the difference of two points is not zero
+--   divisor, divisor-symbol    the difference of two points is not zero, and a symbol
 --   times-inverse   a product with an inverse is a quotient
 --   later-symbols, inverse-symbol, inverse-symbols    what a round multiplies are symbols
 --   round-multiplied    and it works out differences
@@ -8,6 +8,7 @@
 --   round-of-row, one-more    the same as a patch of the row
 --   round-step      the same of a row that lies in a list
 --   round-symbols   after some rounds the row still has symbols
+--   Reducing        what k rounds of such a row ask for; next-round, round-done: one of them
 --   take-patch, front-patch    the front of a list of which a part in it, or beyond its end, is written
 --   front-step, front-symbols    a round that may go on behind the row: the row, and that all are still symbols
 -- Assumes nothing.
@@ -24,7 +25,7 @@ use lib.Seq.{getD-drop, take-set-le, take-set-lt}
 use Rattle.patch.specs.Patch.{patch}
 use Rattle.patch.specs.Parts.{part, lay}
 use Rattle.patch.proofs.Laws.{patch-cong}
-use Rattle.patch.proofs.Parts.{length-part, part-at, lay-end, part-lay, patch-is-lay, patch-lay}
+use Rattle.patch.proofs.Parts.{length-part, part-at, length-lay, lay-end, part-lay, patch-is-lay, patch-lay}
 use Rattle.refusal.specs.Refusal.{badDegree}
 use Rattle.field.specs.Symbols.{plus, times, over}
 use Rattle.lists.specs.Lists.{multiplied, SymbolsAt}
@@ -34,7 +35,7 @@ use Rattle.poly.proofs.Forms.{apart, reduce}
 use Rattle.poly.proofs.Ring.{plus-apart, plus-zero, over-unique, times-over, one-times}
 use Rattle.poly.proofs.Roots.{Mem, Distinct}
 use Rattle.poly.proofs.Differences.{length-apart, length-reduce, symbols-reduce}
-use Rattle.rows.specs.Rows.{Points, RoundInverses, inverse, difference}
+use Rattle.rows.specs.Rows.{Points, RoundInverses, Round, inverse, difference, differencesAt}
 use Rattle.rows.proofs.Symbols.{symbol-at, symbol-patch, symbols-part, symbols-lay}
 
 mem-at : (x : ℕ) (xs : List ℕ) (i : ℕ) → i < length xs → x ≡ getD xs i 0 → Mem x xs
@@ -51,6 +52,10 @@ distinct-at (x ∷ xs) (suc i) (suc j) d h k e = distinct-at xs i j (d .1) (omeg
 module _ (d : ℕ) (good : badDegree d ≡ false) where
   pub divisor : (xs : List ℕ) (i j : ℕ) → Points d xs → i < j → j < length xs → plus (getD xs j 0) (getD xs i 0) ≡ 0 → ⊥
   divisor xs i j p h k = plus-apart (gf d) (field d good) (λ e. distinct-at xs i j (p .distinct) h k (sym e))
+
+  pub divisor-symbol : (xs : List ℕ) (i j : ℕ) → Points d xs → i < length xs → j < length xs
+      → plus (getD xs j 0) (getD xs i 0) < 2 ^ d
+  divisor-symbol xs i j p h k = field d good .plus-in _ _ (symbol-at d xs j (p .symbols) k) (symbol-at d xs i (p .symbols) h)
 
   times-inverse : (a b : ℕ) → a < 2 ^ d → b < 2 ^ d → (b ≡ 0 → ⊥) → times d (plus (over d 1 b) 0) a ≡ over d a b
   times-inverse a b ha hb n =
@@ -89,10 +94,12 @@ module _ (d : ℕ) (good : badDegree d ≡ false) where
   round-of-row j xs us l h =
       let zs : List ℕ = apart (gf d) (getD xs j 0) (getD us j 0) (drop (suc j) xs) (drop (suc j) us) in
       let same : length (drop (suc j) us) ≡ length (drop (suc j) xs) = omega (arith, length-drop (suc j) us, length-drop (suc j) xs) in
-      let size : length zs ≡ length xs - suc j = length-apart (gf d) (field d good) (getD xs j 0) (getD us j 0) (drop (suc j) xs) (drop (suc j) us) same ∙ length-drop (suc j) xs in
+      let size : length zs ≡ length xs - suc j = length-apart (gf d) (field d good) _ _ _ _ same ∙ length-drop (suc j) xs in
+      let each : (i : ℕ) → i < length xs - suc j → difference d xs us j i ≡ getD zs i 0 =
+      λ i k. difference-at xs us j i
+      ∙ sym (apart-at _ _ _ _ i same (omega (arith, length-drop (suc j) xs)) ∙ rw (getD-drop (suc j) us i 0, getD-drop (suc j) xs i 0)) in
       rw add-one
-      (patch-is-lay (suc j) (length xs - suc j) (difference d xs us j) zs us size
-      (λ i k. sym (apart-at (getD xs j 0) (getD us j 0) (drop (suc j) xs) (drop (suc j) us) i same (omega (arith, length-drop (suc j) xs)) ∙ rw (getD-drop (suc j) us i 0, getD-drop (suc j) xs i 0) (sym (difference-at xs us j i))))
+      (patch-is-lay (suc j) (length xs - suc j) (difference d xs us j) zs us size each
       ∙ sym (lay-end (suc j) zs us (omega arith)))
 
   -- the row of one round more, from the row of the rounds before
@@ -102,7 +109,7 @@ module _ (d : ℕ) (good : badDegree d ≡ false) where
       let size : length v ≡ length xs = ap length is ∙ length-reduce (gf d) (field d good) j xs us e in
       round-of-row j xs v size h ∙ rw (is, add-one) (sym (reduce-more j xs us e h))
 
-  pub round-step : (at j : ℕ) (xs us l : List ℕ) {s t : List ℕ} → length us ≡ length xs → j < length xs → at + length xs ≤ length l
+  round-step : (at j : ℕ) (xs us l : List ℕ) {s t : List ℕ} → length us ≡ length xs → j < length xs → at + length xs ≤ length l
       → s ≡ lay at (reduce (gf d) j xs us) l
       → t ≡ patch (at + (j + 1)) (length xs - (j + 1)) (difference d xs (part at (length xs) s) j) s
       → t ≡ lay at (reduce (gf d) (j + 1) xs us) l
@@ -114,7 +121,7 @@ module _ (d : ℕ) (good : badDegree d ≡ false) where
       (patch-lay at (j + 1) (length xs - (j + 1)) (difference d xs v j) v l (omega arith) (omega arith)
       ∙ ap (λ (r : List ℕ). lay at r l) (one-more j xs us e h refl))
 
-  pub round-symbols : (at j : ℕ) (xs l : List ℕ) {s : List ℕ} → at + length xs ≤ length l → SymbolsAt d l at (length xs)
+  round-symbols : (at j : ℕ) (xs l : List ℕ) {s : List ℕ} → at + length xs ≤ length l → SymbolsAt d l at (length xs)
       → s ≡ lay at (reduce (gf d) j xs (part at (length xs) l)) l → SymbolsAt d s at (length xs)
   round-symbols at j xs l fits symbols is =
       let us : List ℕ = part at (length xs) l in
@@ -138,24 +145,52 @@ module _ (d : ℕ) (good : badDegree d ≡ false) (at j : ℕ) (xs l w : List �
       let u : ℕ = plus (getD l (at + (j + 1) + i) 0) (getD l (at + j) 0) in
       let y : ℕ = plus (getD xs (j + 1 + i) 0) (getD xs j 0) in
       let u-in : u < 2 ^ d = field d good .plus-in _ _ (later i k) (symbols j h) in
-      let y-in : y < 2 ^ d = field d good .plus-in _ _ (symbol-at d xs (j + 1 + i) (points .symbols) (omega arith)) (symbol-at d xs j (points .symbols) h) in
+      let y-in : y < 2 ^ d = divisor-symbol d good xs j (j + 1 + i) points h (omega arith) in
       ap (λ (v : ℕ). times d (plus v 0) u) (each i k)
       ∙ times-inverse d good u y u-in y-in (divisor d good xs j (j + 1 + i) points (omega arith) (omega arith))
       ∙ rw (part-at at (length xs) l (j + 1 + i) (omega arith), part-at at (length xs) l j h, add-assoc at (j + 1) i)
 
 -- w being the inverses
-module _ (d : ℕ) (good : badDegree d ≡ false) (at j : ℕ) (xs l w : List ℕ) (h : j < length xs) (points : Points d xs)
-    (symbols : SymbolsAt d l at (length xs)) (given : RoundInverses d xs j w) where
+module _ {d : ℕ} {xs : List ℕ} {j : ℕ} {w l : List ℕ} {at : ℕ} (given : Round d xs j w l at) where
   pub later-symbols : SymbolsAt d l (at + (j + 1)) (length w)
-  later-symbols i k = later d good at j xs l w h points symbols (given .each) i (omega (arith, given .count))
+  later-symbols i k = rw (add-assoc at (j + 1) i) (given .symbols (j + 1 + i) (omega (arith, given .inverses .count)))
 
   pub inverse-symbols : SymbolsAt d w 0 (length w)
-  inverse-symbols i k = rw (zero-add i, given .each i (omega (arith, given .count))) (inverse-symbol d good xs j i)
+  inverse-symbols i k =
+      rw (zero-add i, given .inverses .each i (omega (arith, given .inverses .count))) (inverse-symbol d (given .degree) xs j i)
 
   pub round-multiplied : {t : List ℕ} → t ≡ patch (at + (j + 1)) (length w) (multiplied d w 0 l (at + (j + 1)) (getD l (at + j) 0)) l
-      → t ≡ patch (at + (j + 1)) (length xs - (j + 1)) (difference d xs (part at (length xs) l) j) l
+      → t ≡ differencesAt d xs j l at
   round-multiplied then =
-      then ∙ rw (given .count) (patch-cong (at + (j + 1)) (length xs - (j + 1)) _ _ l (multiplied-is d good at j xs l w h points symbols (given .each)))
+      let is = multiplied-is d (given .degree) at j xs l w (given .place) (given .points) (given .symbols) (given .inverses .each) in
+      then ∙ rw (given .inverses .count) (patch-cong (at + (j + 1)) (length xs - (j + 1)) _ _ l is)
+
+-- k rounds of the row of l from at on
+pub record Reducing (d : ℕ) (xs : List ℕ) (k : ℕ) (l : List ℕ) (at : ℕ) : Type 0 where
+  pub degree : badDegree d ≡ false
+  pub points : Points d xs
+  pub rounds : k ≤ length xs
+  pub few : length xs ≤ 96
+  pub room : at + length xs ≤ length l
+  pub symbols : SymbolsAt d l at (length xs)
+
+module _ {d : ℕ} {xs : List ℕ} {k : ℕ} {l : List ℕ} {at : ℕ} (given : Reducing d xs k l at)
+    {j : ℕ} (more : j < k) {s : List ℕ} (is : s ≡ lay at (reduce (gf d) j xs (part at (length xs) l)) l) where
+  pub next-round : {w : List ℕ} → RoundInverses d xs j w → Round d xs j w s at
+  next-round inverses = record {
+    degree = given .degree;
+    points = given .points;
+    place = omega (arith, given .rounds);
+    room = rw (is, length-lay) (given .room);
+    symbols = round-symbols d (given .degree) at j xs l (given .room) (given .symbols) is;
+    inverses = inverses;
+  }
+
+  pub round-done : {t : List ℕ} → t ≡ differencesAt d xs j s at → t ≡ lay at (reduce (gf d) (j + 1) xs (part at (length xs) l)) l
+  round-done then =
+      let row : List ℕ = part at (length xs) l in
+      round-step d (given .degree) at j xs row l (length-part at (length xs) l (given .room)) (omega (arith, given .rounds))
+      (given .room) is then
 
 take-patch : (n at m : ℕ) (f : ℕ → ℕ) (l : List ℕ) → at + m ≤ n → take n (patch at m f l) ≡ patch at m f (take n l)
 unfolding patch
@@ -184,7 +219,8 @@ module _ (d : ℕ) (good : badDegree d ≡ false) (j : ℕ) (l w : List ℕ) {t 
       let all : length w ≡ m + (length w - m) = omega arith in
       ap (take n) (then ∙ ap (λ (r : ℕ). patch (j + 1) r f l) all)
       ∙ front-patch n (j + 1) m (length w - m) f l (omega arith)
-      ∙ patch-cong (j + 1) m f (difference d xs (take n l) j) (take n l) (λ i k. rw (zero-add (j + 1), zero-add j) at (multiplied-is d good 0 j xs l w h points symbols each i k))
+      ∙ patch-cong (j + 1) m f (difference d xs (take n l) j) (take n l)
+      (λ i k. rw (zero-add (j + 1), zero-add j) at (multiplied-is d good 0 j xs l w h points symbols each i k))
       ∙ one-more d good j xs us e h is
 
   pub front-symbols : (n : ℕ) → j + 1 + length w ≤ length l → SymbolsAt d l 0 n → SymbolsAt d t 0 n

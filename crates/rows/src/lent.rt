@@ -11,10 +11,10 @@ ghost use Rattle.lists.specs.Lists.{SymbolsAt};
 ghost use Rattle.poly.specs.Poly.{All};
 ghost use Rattle.poly.proofs.Forms.{reduce};
 ghost use Rattle.rows.specs.Rows.{Points, Inverses};
-use field::tables::LENT;
+use field::tables::Table;
 
 // For the crates above: the inverses of k rounds, those of round j in ws from 96·j on.
-pub fn all_inverses(table: &[u8; LENT], degree: u32, points: &[u8], k: usize, ws: &mut [u8])
+pub fn all_inverses(table: &Table, degree: u32, points: &[u8], k: usize, ws: &mut [u8])
     requires { ⌜ (badDegree degree ≡ false) × IsTable degree (now table) × Points degree (now points) ⌝ }
     requires { ⌜ (k ≤ length (now points)) × (length (now points) ≤ 96) × (96 * k ≤ length (now ws)) ⌝ }
     requires { ⌜ All (IsSymbol degree) (now ws) ⌝ }
@@ -29,11 +29,13 @@ pub fn all_inverses(table: &[u8; LENT], degree: u32, points: &[u8], k: usize, ws
 
 // For the crates above: k rounds of divided differences of the row at the front of s, by lent inverses. A round takes whole
 // sixteens, so that up to 15 symbols behind the row change too.
-pub fn reduce(table: &[u8; LENT], degree: u32, points: &[u8], k: usize, ws: &[u8], s: &mut [u8])
+pub fn reduce(table: &Table, degree: u32, points: &[u8], k: usize, ws: &[u8], s: &mut [u8])
     requires { ⌜ (badDegree degree ≡ false) × IsTable degree (now table) × Points degree (now points) ⌝ }
     requires { ⌜ (k ≤ length (now points)) × (length (now points) ≤ 96) × (length (now points) + 15 ≤ length (now s)) ⌝ }
     requires { ⌜ SymbolsAt degree (now s) 0 (length (now points) + 15) × Inverses degree (now points) k (now ws) ⌝ }
-    ensures { λ _. ⌜ take (length (now (points .entry))) (now (s .exit)) ≡ reduce (gf degree) k (now (points .entry)) (take (length (now (points .entry))) (now (s .entry))) ⌝ }
+    ensures { λ _.
+        ⌜ take (length (now (points .entry))) (now (s .exit))
+        ≡ reduce (gf degree) k (now (points .entry)) (take (length (now (points .entry))) (now (s .entry))) ⌝ }
 {
     let mut j = 0;
     while j < k {

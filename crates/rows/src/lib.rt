@@ -2,21 +2,20 @@
 // form the polynomial and its values. They know nothing of columns.
 ghost use mathlib.Core.Path.{_≡_};
 ghost use mathlib.Core.Bool.{false};
-ghost use mathlib.Core.List.{map};
 ghost use Prim.Native.Nat.{_+_, _-_, _^_, _≤_, _<_};
-ghost use lib.ListN.{length, getD};
+ghost use lib.ListN.{length};
 ghost use Rattle.patch.specs.Patch.{patch};
 ghost use Rattle.patch.specs.Parts.{part, lay};
 ghost use Rattle.refusal.specs.Refusal.{badDegree};
-ghost use Rattle.field.specs.Symbols.{IsSymbol, plus};
+ghost use Rattle.field.specs.Symbols.{IsSymbol};
 ghost use Rattle.field.specs.Arithmetic.{gf};
 ghost use Rattle.field.specs.Tables.{IsTable};
 ghost use Rattle.lists.specs.Lists.{SymbolsAt};
 ghost use Rattle.poly.specs.Poly.{All, valuesAt};
-ghost use Rattle.poly.proofs.Forms.{lin, reduce, fromNewton, newtonValue};
-ghost use Rattle.rows.specs.Rows.{Points, RoundInverses, inverse, difference};
+ghost use Rattle.poly.proofs.Forms.{lin, reduce, fromNewton};
+ghost use Rattle.rows.specs.Rows.{Points, Inverting, Round, invertedAt, differencesAt, constantAdded, newtonValues};
 use field::tables;
-use field::tables::LENT;
+use field::tables::Table;
 
 pub mod lent;
 
@@ -32,10 +31,10 @@ pub fn clear(s: &mut [u8], at: usize, n: usize)
     }
 }
 
-// For the crates above: adds c to n symbols of s from `at` on.
-pub fn add_constant(c: u8, s: &mut [u8], at: usize, n: usize)
+// Adds c to n symbols of s from `at` on.
+fn add_constant(c: u8, s: &mut [u8], at: usize, n: usize)
     requires { ⌜ at + n ≤ length (now s) ⌝ }
-    ensures { λ _. ⌜ now (s .exit) ≡ patch at n (λ k. plus (getD (now (s .entry)) (at + k) 0) c) (now (s .entry)) ⌝ }
+    ensures { λ _. ⌜ now (s .exit) ≡ constantAdded c (now (s .entry)) at n ⌝ }
 {
     let mut i = 0;
     while i < n {
@@ -56,11 +55,11 @@ pub fn store(w: &[u8], s: &mut [u8], at: usize)
     }
 }
 
-// For the crates above: the inverses of the differences between the points behind the j-th and the j-th, in w from `at` on.
-pub fn inverses(table: &[u8; LENT], degree: u32, points: &[u8], j: usize, w: &mut [u8], at: usize)
-    requires { ⌜ (badDegree degree ≡ false) × IsTable degree (now table) × Points degree (now points) ⌝ }
-    requires { ⌜ (j < length (now points)) × (at + length (now points) ≤ length (now w)) ⌝ }
-    ensures { λ _. ⌜ now (w .exit) ≡ patch at (length (now (points .entry)) - (j + 1)) (inverse degree (now (points .entry)) j) (now (w .entry)) ⌝ }
+// The inverses of the differences between the points behind the j-th and the j-th, in w from `at` on.
+fn inverses(table: &Table, degree: u32, points: &[u8], j: usize, w: &mut [u8], at: usize)
+    requires { ⌜ IsTable degree (now table) ⌝ }
+    requires { ⌜ Inverting degree (now points) j (now w) at ⌝ }
+    ensures { λ _. ⌜ now (w .exit) ≡ invertedAt degree (now (points .entry)) j (now (w .entry)) at ⌝ }
 {
     let mut i = 0;
     while i < points.len() - (j + 1) {
@@ -69,20 +68,11 @@ pub fn inverses(table: &[u8; LENT], degree: u32, points: &[u8], j: usize, w: &mu
     }
 }
 
-// For the crates above: round j of the divided differences of the row of s from `at` on, w being the inverses of the round.
-pub fn round(
-    table: &[u8; LENT],
-    degree: u32,
-    points: &[u8],
-    j: usize,
-    w: &[u8],
-    s: &mut [u8],
-    at: usize,
-)
-    requires { ⌜ (badDegree degree ≡ false) × IsTable degree (now table) × Points degree (now points) ⌝ }
-    requires { ⌜ (j < length (now points)) × (at + length (now points) ≤ length (now s)) × SymbolsAt degree (now s) at (length (now points)) ⌝ }
-    requires { ⌜ RoundInverses degree (now points) j (now w) ⌝ }
-    ensures { λ _. ⌜ now (s .exit) ≡ patch (at + (j + 1)) (length (now (points .entry)) - (j + 1)) (difference degree (now (points .entry)) (part at (length (now (points .entry))) (now (s .entry))) j) (now (s .entry)) ⌝ }
+// Round j of the divided differences of the row of s from `at` on, w being the inverses of the round.
+fn round(table: &Table, degree: u32, points: &[u8], j: usize, w: &[u8], s: &mut [u8], at: usize)
+    requires { ⌜ IsTable degree (now table) ⌝ }
+    requires { ⌜ Round degree (now points) j (now w) (now s) at ⌝ }
+    ensures { λ _. ⌜ now (s .exit) ≡ differencesAt degree (now (points .entry)) j (now (s .entry)) at ⌝ }
 {
     let b = s[at + j];
     lists::multiply(table, degree, w, 0, s, at + (j + 1), b);
@@ -90,11 +80,13 @@ pub fn round(
 
 // For the crates above: k rounds of divided differences of the row of s from `at` on. The first k symbols of the row are then
 // its Newton coefficients, and the rest are the reduced values. Rows over the same points are reduced by lent inverses.
-pub fn reduce(table: &[u8; LENT], degree: u32, points: &[u8], k: usize, s: &mut [u8], at: usize)
+pub fn reduce(table: &Table, degree: u32, points: &[u8], k: usize, s: &mut [u8], at: usize)
     requires { ⌜ (badDegree degree ≡ false) × IsTable degree (now table) × Points degree (now points) ⌝ }
     requires { ⌜ (k ≤ length (now points)) × (length (now points) ≤ 96) × (at + length (now points) ≤ length (now s)) ⌝ }
     requires { ⌜ SymbolsAt degree (now s) at (length (now points)) ⌝ }
-    ensures { λ _. ⌜ now (s .exit) ≡ lay at (reduce (gf degree) k (now (points .entry)) (part at (length (now (points .entry))) (now (s .entry)))) (now (s .entry)) ⌝ }
+    ensures { λ _.
+        ⌜ now (s .exit)
+        ≡ lay at (reduce (gf degree) k (now (points .entry)) (part at (length (now (points .entry))) (now (s .entry)))) (now (s .entry)) ⌝ }
 {
     let mut w = [0u8; 96];
     let mut j = 0;
@@ -115,7 +107,7 @@ pub fn reduce(table: &[u8; LENT], degree: u32, points: &[u8], k: usize, s: &mut 
 
 // For the crates above: the values at the points xs of the polynomial with the Newton coefficients us at the nodes.
 pub fn evaluate(
-    table: &[u8; LENT],
+    table: &Table,
     degree: u32,
     xs: &[u8],
     nodes: &[u8],
@@ -126,7 +118,8 @@ pub fn evaluate(
     requires { ⌜ (badDegree degree ≡ false) × IsTable degree (now table) ⌝ }
     requires { ⌜ All (IsSymbol degree) (now xs) × All (IsSymbol degree) (now nodes) × All (IsSymbol degree) (now us) ⌝ }
     requires { ⌜ (0 < length (now us)) × (length (now us) ≤ length (now nodes)) × (at + length (now xs) ≤ length (now s)) ⌝ }
-    ensures { λ _. ⌜ now (s .exit) ≡ lay at (map (newtonValue (gf degree) (length (now (us .entry))) (now (nodes .entry)) (now (us .entry))) (now (xs .entry))) (now (s .entry)) ⌝ }
+    ensures { λ _.
+        ⌜ now (s .exit) ≡ lay at (newtonValues degree (now (nodes .entry)) (now (us .entry)) (now (xs .entry))) (now (s .entry)) ⌝ }
 {
     clear(s, at, xs.len());
     let mut j = us.len();
@@ -138,7 +131,7 @@ pub fn evaluate(
 }
 
 // For the crates above: the values of the polynomial p at the points xs.
-pub fn values(table: &[u8; LENT], degree: u32, xs: &[u8], p: &[u8], s: &mut [u8], at: usize)
+pub fn values(table: &Table, degree: u32, xs: &[u8], p: &[u8], s: &mut [u8], at: usize)
     requires { ⌜ (badDegree degree ≡ false) × IsTable degree (now table) ⌝ }
     requires { ⌜ All (IsSymbol degree) (now xs) × All (IsSymbol degree) (now p) ⌝ }
     requires { ⌜ (0 < length (now p)) × (length (now p) ≤ 96) × (at + length (now xs) ≤ length (now s)) ⌝ }
@@ -149,7 +142,7 @@ pub fn values(table: &[u8; LENT], degree: u32, xs: &[u8], p: &[u8], s: &mut [u8]
 }
 
 // For the crates above: c + (x − a)·p, in s from `at` on.
-pub fn linear_of(table: &[u8; LENT], degree: u32, a: u8, c: u8, p: &[u8], s: &mut [u8], at: usize)
+pub fn linear_of(table: &Table, degree: u32, a: u8, c: u8, p: &[u8], s: &mut [u8], at: usize)
     requires { ⌜ (badDegree degree ≡ false) × IsTable degree (now table) × (a < 2 ^ degree) ⌝ }
     requires { ⌜ at + (length (now p) + 1) ≤ length (now s) ⌝ }
     ensures { λ _. ⌜ now (s .exit) ≡ lay at (lin (gf degree) a c (now (p .entry))) (now (s .entry)) ⌝ }
@@ -160,16 +153,7 @@ pub fn linear_of(table: &[u8; LENT], degree: u32, a: u8, c: u8, p: &[u8], s: &mu
 }
 
 // The polynomial p of m coefficients in s from `at` on becomes c + (x − a)·p; w is room for a copy.
-fn linear(
-    table: &[u8; LENT],
-    degree: u32,
-    a: u8,
-    c: u8,
-    s: &mut [u8],
-    at: usize,
-    m: usize,
-    w: &mut [u8],
-)
+fn linear(table: &Table, degree: u32, a: u8, c: u8, s: &mut [u8], at: usize, m: usize, w: &mut [u8])
     requires { ⌜ (badDegree degree ≡ false) × IsTable degree (now table) × (a < 2 ^ degree) ⌝ }
     requires { ⌜ (m ≤ length (now w)) × (at + (m + 1) ≤ length (now s)) ⌝ }
     ensures { λ _. ⌜ now (s .exit) ≡ lay at (lin (gf degree) a c (part at m (now (s .entry)))) (now (s .entry)) ⌝ }
@@ -179,17 +163,12 @@ fn linear(
 }
 
 // For the crates above: the coefficients of the polynomial with the Newton coefficients us at the nodes.
-pub fn coefficients(
-    table: &[u8; LENT],
-    degree: u32,
-    nodes: &[u8],
-    us: &[u8],
-    s: &mut [u8],
-    at: usize,
-)
+pub fn coefficients(table: &Table, degree: u32, nodes: &[u8], us: &[u8], s: &mut [u8], at: usize)
     requires { ⌜ (badDegree degree ≡ false) × IsTable degree (now table) × All (IsSymbol degree) (now nodes) ⌝ }
     requires { ⌜ (length (now us) ≤ length (now nodes)) × (length (now us) ≤ 384) × (at + length (now us) ≤ length (now s)) ⌝ }
-    ensures { λ _. ⌜ now (s .exit) ≡ lay at (fromNewton (gf degree) (length (now (us .entry))) (now (nodes .entry)) (now (us .entry))) (now (s .entry)) ⌝ }
+    ensures { λ _.
+        ⌜ now (s .exit)
+        ≡ lay at (fromNewton (gf degree) (length (now (us .entry))) (now (nodes .entry)) (now (us .entry))) (now (s .entry)) ⌝ }
 {
     let mut w = [0u8; 384];
     let mut j = us.len();

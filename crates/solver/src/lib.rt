@@ -13,7 +13,7 @@ ghost use Rattle.field.specs.Tables.{IsTable};
 ghost use Rattle.poly.specs.Poly.{All};
 ghost use Rattle.solver.specs.Start.{total, Starts};
 ghost use Rattle.solver.specs.Solver.{HoldsSome, Steps, Runs, SomeRows, Solves};
-use field::tables::LENT;
+use field::tables::Table;
 
 // For the crates above: the lines before the first condition, of rows with these numbers of conditions, the values at which are us,
 // one row after another.
@@ -30,7 +30,7 @@ pub fn start(us: &[u8], counts: &[usize], leads: &mut [usize; 5], space: &mut [u
 // Takes the lines over condition i: none changes if all have the value zero there; else the pivot is mixed into the others and
 // raised; w is room for a copy of it.
 fn step(
-    table: &[u8; LENT],
+    table: &Table,
     degree: u32,
     points: &[u8],
     i: usize,
@@ -56,7 +56,7 @@ fn step(
 
 // For the crates above: takes the lines over all conditions, one after the other.
 pub fn run(
-    table: &[u8; LENT],
+    table: &Table,
     degree: u32,
     points: &[u8],
     lines: usize,
@@ -79,7 +79,7 @@ pub fn run(
 // For the crates above: the solver's lines, for rows with these numbers of conditions, their points and the values us at them, one
 // row after another.
 pub fn solve(
-    table: &[u8; LENT],
+    table: &Table,
     degree: u32,
     counts: &[usize],
     points: &[u8],

@@ -13,7 +13,7 @@ ghost use Rattle.poly.specs.Poly.{All};
 ghost use Rattle.solver.specs.Slots.{slots, Only, Each};
 ghost use Rattle.solver.specs.Turns.{Copied, mixed, raised, Turned};
 use field::tables;
-use field::tables::LENT;
+use field::tables::Table;
 
 // The values of the lines at condition i.
 pub(crate) fn heads(space: &[u8], i: usize, lines: usize, ds: &mut [u8; 5])
@@ -29,7 +29,7 @@ pub(crate) fn heads(space: &[u8], i: usize, lines: usize, ds: &mut [u8; 5])
 
 // Adds to line j the multiple of the pivot that takes its value at the condition at hand away; w is the pivot from slot `at` on.
 fn mix_line(
-    table: &[u8; LENT],
+    table: &Table,
     degree: u32,
     ds: &[u8; 5],
     p: usize,
@@ -55,7 +55,7 @@ fn mix_line(
 
 // Adds to every other line the multiple of the pivot that takes its value away.
 fn mix_lines(
-    table: &[u8; LENT],
+    table: &Table,
     degree: u32,
     ds: &[u8; 5],
     p: usize,
@@ -97,7 +97,7 @@ fn copy_line(space: &[u8], p: usize, at: usize, n: usize, w: &mut [u8])
 // Adds to every other line the multiple of the pivot p that takes its value away; n slots of the pivot from slot `at` on count,
 // and w has a copy of them then.
 fn mix_others(
-    table: &[u8; LENT],
+    table: &Table,
     degree: u32,
     ds: &[u8; 5],
     p: usize,
@@ -120,7 +120,7 @@ fn mix_others(
 
 // Multiplies the pivot p by (X + x): its values, from slot `at` on, at the points xs, and its locator, of which `locator` is a copy.
 fn raise(
-    table: &[u8; LENT],
+    table: &Table,
     degree: u32,
     xs: &[u8],
     x: u8,
@@ -142,7 +142,7 @@ fn raise(
 // Mixes the pivot p, the locator of which has at most `width` coefficients, into the other lines at condition i, and raises it;
 // w is room for a copy.
 pub(crate) fn turn(
-    table: &[u8; LENT],
+    table: &Table,
     degree: u32,
     points: &[u8],
     i: usize,

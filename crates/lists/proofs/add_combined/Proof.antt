@@ -1,85 +1,39 @@
--- `field::lists::add_combined` adds the combined symbols, one after the other.
+-- `lists::add_combined` adds the combined symbols, one after the other.
 -- Assumes nothing.
-use mathlib.Core.Path.{_≡_, sym, ap₂}
-use mathlib.Core.List.{List}
-use Prim.Native.Nat.{ℕ, _+_, _-_, _≤_}
+use mathlib.Core.Path.{ap₂}
+use Prim.Native.Nat.{_+_, _-_, _<_}
 use native.Mathlib.Omega.{arith}
-use lib.ListN.{length, getD}
-use Rattle.patch.specs.Patch.{patch}
-use Rattle.patch.proofs.Laws.{patch-none, length-patch, patch-step, here}
+use lib.ListN.{length}
+use Rattle.patch.proofs.Loops.{Filling, filling, slot, unfilled, turn, kept-length, filled}
 use Rattle.field.specs.Symbols.{plus}
-use Rattle.lists.specs.Combining.{combined}
+use Rattle.lists.specs.Combining.{addedBy}
 use borrow.Author.Needs.{needs}
 use Rattle.lists.proofs.add_combined.Statement.{statement}
 use Rattle.lists.proofs.add_combined.Tie as tie
 
-abbrev addedBy : List ℕ → List ℕ → List ℕ → ℕ → ℕ → ℕ
-addedBy r w l at k = plus (getD l (at + k) 0) (combined r (getD w k 0))
-
 abbrev Inv-loop : tie.InvT-loop
-Inv-loop degree r w s₀ at i₀ s i = (i ≤ length w) × (s ≡ patch at i (addedBy r w s₀ at) s₀)
+Inv-loop degree r w s₀ at i₀ s i = Filling at (length w) (addedBy r w s₀ at) s₀ s i
 
 abbrev μ-loop : tie.MeasureT-loop
 μ-loop degree r w s₀ at i₀ s i = length w - i
 
-loop-holds : tie.Need-loop-holds Inv-loop μ-loop
-loop-holds c = (search needs, sym (patch-none _ _ _))
+abbrev start : tie.In-loop Inv-loop μ-loop → tie.Start Inv-loop μ-loop
+start c = c .before .before .before .before
 
-add-s : tie.Need-add-s Inv-loop μ-loop
-add-s c = search needs
+abbrev reading : tie.After-combine Inv-loop μ-loop → tie.In-loop Inv-loop μ-loop
+reading c = c .before .before .before
 
-slice-read-s : tie.Need-slice-read-s Inv-loop μ-loop
-slice-read-s c =
-    rw (c .before .before .loop .inv .1) (rw length-patch (omega (arith, c .before .loop-test .taken, c .before .before .before .before .before .pre)))
-
-shared-slice-read-combine : tie.Need-shared-slice-read-combine Inv-loop μ-loop
-shared-slice-read-combine c = search needs
-
-combine-requires : tie.Need-combine-requires Inv-loop μ-loop
-combine-requires c κs = search needs
-
-add-s-2 : tie.Need-add-s-2 Inv-loop μ-loop
-add-s-2 c = search needs
-
-slice-write-s : tie.Need-slice-write-s Inv-loop μ-loop
-slice-write-s c =
-    rw (c .before .before .before .before .loop .inv .1) (rw length-patch (omega (arith, c .before .before .before .loop-test .taken, c .before .before .before .before .before .before .before .pre)))
-
-add-i : tie.Need-add-i Inv-loop μ-loop
-add-i c = search needs
-
-loop-less : tie.Need-loop-less Inv-loop μ-loop
-loop-less c = search needs
+next : (c : tie.In-loop Inv-loop μ-loop) → start c .args .at + c .before .loop .i < length (c .before .loop .s)
+next c = slot (c .before .loop .inv) (c .loop-test .taken) (start c .pre .1)
 
 loop-again : tie.Need-loop-again Inv-loop μ-loop
 unfolding plus
 loop-again c =
-    let inv = c .before .before .before .before .loop .inv .1 in
-    (omega (arith, c .before .before .before .loop-test .taken), patch-step _ _ _ _ inv (ap₂ plus (here _ _ _ _ inv 0) (c .combine .ensures)))
-
-same-length : tie.Need-same-length Inv-loop μ-loop
-same-length c = rw (c .before .loop .inv .1) (length-patch _ _ _ _)
-
-returns : tie.Need-returns Inv-loop μ-loop
-returns c =
-    let whole : c .before .loop .i ≡ length (c .before .before .before .before .args .w .now) = omega arith in
-    rw (← whole) (c .before .loop .inv .1)
+    let here = reading c in
+    turn (here .before .loop .inv) (here .loop-test .taken) (ap₂ plus (unfilled (here .before .loop .inv) 0) (c .combine .ensures))
 
 pub add-combined-spec : {M : Type 1} → statement M
 add-combined-spec =
-    tie.close
-    (tie.spec
-    Inv-loop
-    μ-loop
-    loop-holds
-    add-s
-    slice-read-s
-    shared-slice-read-combine
-    combine-requires
-    add-s-2
-    slice-write-s
-    add-i
-    loop-less
-    loop-again
-    same-length
-    returns)
+    tie.close (tie.spec Inv-loop μ-loop (λ c. filling) (λ c. search needs) (λ c. next (c .before)) (λ c. search needs)
+    (λ c κs. search needs) (λ c. search needs) (λ c. next (reading c)) (λ c. search needs) (λ c. search needs)
+    loop-again (λ c. kept-length (c .before .loop .inv)) (λ c. filled (c .before .loop .inv) (omega arith)))

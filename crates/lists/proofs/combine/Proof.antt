@@ -1,4 +1,4 @@
--- `field::lists::combine` combines the doublings by the bits of the symbol.
+-- `lists::combine` combines the doublings by the bits of the symbol.
 -- Assumes nothing.
 use mathlib.Core.Path.{sym}
 use Rattle.lists.proofs.Combined.{sixteenth, four-combined, combined-zero, combined-none}
@@ -6,83 +6,28 @@ use borrow.Author.Needs.{needs}
 use Rattle.lists.proofs.combine.Statement.{statement}
 use Rattle.lists.proofs.combine.Tie as tie
 
-element-copy-out-combine-four : tie.Need-element-copy-out-combine-four
-element-copy-out-combine-four c = search needs
-
-element-copy-out-combine-four-2 : tie.Need-element-copy-out-combine-four-2
-element-copy-out-combine-four-2 c = search needs
-
-element-copy-out-combine-four-3 : tie.Need-element-copy-out-combine-four-3
-element-copy-out-combine-four-3 c = search needs
-
-element-copy-out-combine-four-4 : tie.Need-element-copy-out-combine-four-4
-element-copy-out-combine-four-4 c = search needs
-
-combine-four-requires : tie.Need-combine-four-requires
-combine-four-requires c κs = search needs
-
 returns : tie.Need-returns
 returns c =
-    let start = c .before .before .before .before .before .before in
-    four-combined (start .args .r .now) 0 4 (start .args .s) (c .combine-four .ensures)
-    (sym (combined-none (start .args .r .now) 4 4 _ (c .before .before .before .before .before .before .pre (c .before .before .before .before .before .if1 .taken))))
+    let low = c .before .before .before .before .before in
+    four-combined (low .before .args .r .now) 0 4 (low .before .args .s) (c .combine-four .ensures)
+    (sym (combined-none _ 4 4 _ (low .before .pre (low .if1 .taken))))
 
-element-copy-out-combine-four-5 : tie.Need-element-copy-out-combine-four-5
-element-copy-out-combine-four-5 c = search needs
+abbrev higher : tie.After-combine-four3 → tie.After-combine-four2
+higher c = c .before .before .before .before .before
 
-element-copy-out-combine-four-6 : tie.Need-element-copy-out-combine-four-6
-element-copy-out-combine-four-6 c = search needs
-
-element-copy-out-combine-four-7 : tie.Need-element-copy-out-combine-four-7
-element-copy-out-combine-four-7 c = search needs
-
-element-copy-out-combine-four-8 : tie.Need-element-copy-out-combine-four-8
-element-copy-out-combine-four-8 c = search needs
-
-combine-four-requires-2 : tie.Need-combine-four-requires-2
-combine-four-requires-2 c κs = search needs
-
-element-copy-out-combine-four-9 : tie.Need-element-copy-out-combine-four-9
-element-copy-out-combine-four-9 c = search needs
-
-element-copy-out-combine-four-10 : tie.Need-element-copy-out-combine-four-10
-element-copy-out-combine-four-10 c = search needs
-
-element-copy-out-combine-four-11 : tie.Need-element-copy-out-combine-four-11
-element-copy-out-combine-four-11 c = search needs
-
-element-copy-out-combine-four-12 : tie.Need-element-copy-out-combine-four-12
-element-copy-out-combine-four-12 c = search needs
-
-combine-four-requires-3 : tie.Need-combine-four-requires-3
-combine-four-requires-3 c κs = search needs
+abbrev start : tie.After-combine-four2 → tie.Start
+start c = c .before .before .before .before .before .before
 
 returns-2 : tie.Need-returns-2
 returns-2 c =
-    let start = c .before .before .before .before .before .before .before .before .before .before .before in
-    let r = start .args .r .now in
-    let s = start .args .s in
+    let r = start (higher c) .args .r .now in
+    let s = start (higher c) .args .s in
     four-combined r 0 4 s (c .combine-four3 .ensures)
-    (four-combined r 4 0 _ (rw (sixteenth s) at (c .before .before .before .before .before .combine-four2 .ensures)) (sym (combined-zero r 8 _)))
+    (four-combined r 4 0 _ (rw (sixteenth s) at (higher c .combine-four2 .ensures)) (sym (combined-zero r 8 _)))
 
 pub combine-spec : {M : Type 1} → statement M
 combine-spec =
-    tie.close
-    (tie.spec
-    element-copy-out-combine-four
-    element-copy-out-combine-four-2
-    element-copy-out-combine-four-3
-    element-copy-out-combine-four-4
-    combine-four-requires
-    returns
-    element-copy-out-combine-four-5
-    element-copy-out-combine-four-6
-    element-copy-out-combine-four-7
-    element-copy-out-combine-four-8
-    combine-four-requires-2
-    element-copy-out-combine-four-9
-    element-copy-out-combine-four-10
-    element-copy-out-combine-four-11
-    element-copy-out-combine-four-12
-    combine-four-requires-3
-    returns-2)
+    tie.close (tie.spec (λ c. search needs) (λ c. search needs) (λ c. search needs) (λ c. search needs)
+    (λ c κs. search needs) returns (λ c. search needs) (λ c. search needs) (λ c. search needs) (λ c. search needs)
+    (λ c κs. search needs) (λ c. search needs) (λ c. search needs) (λ c. search needs) (λ c. search needs)
+    (λ c κs. search needs) returns-2)

@@ -1,4 +1,4 @@
--- `field::lists::combine_four` combines four doublings.
+-- `lists::combine_four` combines four doublings.
 -- Assumes nothing.
 use mathlib.Core.Path.{refl, ap₂}
 use lib.Bits.{bitXor}
@@ -28,5 +28,4 @@ returns c =
 
 pub combine-four-spec : {M : Type 1} → statement M
 combine-four-spec =
-    tie.close
-    (tie.spec masked-requires masked-requires-2 masked-requires-3 masked-requires-4 returns)
+    tie.close (tie.spec masked-requires masked-requires-2 masked-requires-3 masked-requires-4 returns)

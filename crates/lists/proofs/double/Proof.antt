@@ -1,24 +1,25 @@
--- `field::lists::double` is x times the symbol.
+-- `lists::double` is x times the symbol.
 -- Assumes nothing.
 use Prim.Native.Nat.{_-_}
 use Rattle.refusal.proofs.Laws.{up-to-eight, positive}
 use Rattle.field.specs.Symbols.{plus}
-use Rattle.field.proofs.Instance.{generated}
+use Rattle.field.proofs.Instance.{tested}
 use Rattle.lists.proofs.Combined.{doubled-small, doubled-large}
 use Rattle.lists.proofs.double.Statement.{statement}
 use Rattle.lists.proofs.double.Tie as tie
 
 returns : tie.Need-returns
 returns c =
-    let p = c .before .pre in
-    doubled-small _ (generated _ (p .0)) _ (up-to-eight _ (p .0)) (p .2) (rw (p .1 .top) at (c .if1 .taken))
+    let g = c .before .pre .0 in
+    doubled-small _ (tested _ (g .degree)) _ (up-to-eight _ (g .degree)) (c .before .pre .1) (rw (g .top) at (c .if1 .taken))
 
 returns-2 : tie.Need-returns-2
 unfolding plus
 returns-2 c =
-    let p = c .before .pre in
-    rw (p .1 .rest)
-    (doubled-large _ (generated _ (p .0)) _ (up-to-eight _ (p .0)) (p .2) (positive _ (p .0)) (rw (p .1 .top) at (c .if1 .left)))
+    let g = c .before .pre .0 in
+    rw (g .rest)
+    (doubled-large _ (tested _ (g .degree)) _ (up-to-eight _ (g .degree)) (c .before .pre .1) (positive _ (g .degree))
+    (rw (g .top) at (c .if1 .left)))
 
 pub double-spec : {M : Type 1} → statement M
 double-spec = tie.close (tie.spec returns returns-2)

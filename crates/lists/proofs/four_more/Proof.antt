@@ -1,22 +1,10 @@
--- `field::lists::four_more` takes four bits of a product.
+-- `lists::four_more` takes four bits of a product.
 -- Assumes nothing.
 use Prim.Native.Nat.{suc}
 use Rattle.lists.proofs.Combined.{low-step}
 use borrow.Author.Needs.{needs}
 use Rattle.lists.proofs.four_more.Statement.{statement}
 use Rattle.lists.proofs.four_more.Tie as tie
-
-bit-more-requires : tie.Need-bit-more-requires
-bit-more-requires c κs = search needs
-
-bit-more-requires-2 : tie.Need-bit-more-requires-2
-bit-more-requires-2 c κs = search needs
-
-bit-more-requires-3 : tie.Need-bit-more-requires-3
-bit-more-requires-3 c κs = search needs
-
-bit-more-requires-4 : tie.Need-bit-more-requires-4
-bit-more-requires-4 c κs = search needs
 
 returns : tie.Need-returns
 returns c = (
@@ -30,10 +18,5 @@ returns c = (
 
 pub four-more-spec : {M : Type 1} → statement M
 four-more-spec =
-    tie.close
-    (tie.spec
-    bit-more-requires
-    bit-more-requires-2
-    bit-more-requires-3
-    bit-more-requires-4
+    tie.close (tie.spec (λ c κs. search needs) (λ c κs. search needs) (λ c κs. search needs) (λ c κs. search needs)
     returns)

@@ -1,4 +1,4 @@
--- `field::lists::masked` is the bit times the byte.
+-- `lists::masked` is the bit times the byte.
 -- Assumes nothing.
 use mathlib.Core.Path.{_≡_, sym}
 use native.Mathlib.Nat.{zero-mul, one-mul}

@@ -1,97 +1,62 @@
--- `field::lists::multiply` multiplies by the sixteens of a list, and by what is left over.
+-- `lists::multiply` multiplies by the sixteens of a list, and by what is left over.
 -- Assumes nothing.
 use mathlib.Core.Path.{sym}
-use Prim.Native.Nat.{ℕ, _*_, _/_}
 use native.Mathlib.Omega.{arith}
 use lib.ListN.{length}
 use lib.Seq.{length-take-le}
-use Rattle.field.specs.Symbols.{plus, times}
-use Rattle.lists.specs.Lists.{multiplied}
-use Rattle.lists.proofs.InParts.{whole-sixteens, front-factors, front-symbols, rest-length, back-factors, back-symbols, both-parts}
+use Rattle.lists.specs.Lists.{Multiplying}
+use Rattle.lists.proofs.InParts.{whole-sixteens, front-multiplying, back-multiplying, multiplied-parts}
 use borrow.Author.Needs.{needs}
 use Rattle.lists.proofs.multiply.Statement.{statement}
 use Rattle.lists.proofs.multiply.Tie as tie
 
--- what is written at a place, from the factor and from what stands there
-abbrev product : (c : tie.Start) → ℕ → ℕ → ℕ
-product c x y = times (c .args .degree) (plus x (c .args .a)) (plus y (c .args .b))
+given : (c : tie.Start) → Multiplying (c .args .degree) (c .args .w .now) (c .args .a) (c .args .s .now) (c .args .at) (c .args .b)
+given c = record {
+  degree = c .pre .0 .0;
+  left = c .pre .0 .2;
+  right = c .pre .0 .3;
+  room = c .pre .1 .0;
+  factors = c .pre .1 .1 .0;
+  symbols = c .pre .1 .1 .1;
+}
+
+abbrev front : tie.After-multiply-front-arg2 → tie.Start
+front c = c .before .before .before .before
+
+abbrev fronted : tie.After-multiply-few-arg2 → tie.After-multiply-front
+fronted c = c .before .before .before .before
+
+abbrev back : tie.After-slice-known3 → tie.After-multiply-few-arg2
+back c = c .before .before .before
 
 mul-many : tie.Need-mul-many
 mul-many c = omega (arith, whole-sixteens (length (c .before .before .args .w .now)))
 
 slice-aggregate-multiply-front : tie.Need-slice-aggregate-multiply-front
-slice-aggregate-multiply-front c =
-    let w = c .before .before .before .args .w .now in sym (length-take-le (length w / 16 * 16) w (whole-sixteens (length w)))
+slice-aggregate-multiply-front c = sym (length-take-le _ _ (whole-sixteens (length (c .before .before .before .args .w .now))))
 
 multiply-front-requires : tie.Need-multiply-front-requires
 multiply-front-requires c κs =
-    let start = c .before .before .before .before in
-    let w = start .args .w .now in
-    let p = start .pre in
-    let fits = whole-sixteens (length w) in (
-      p .0,
-      (
-        omega (arith, p .1 .0, length-take-le (length w / 16 * 16) w fits),
-        (
-          front-factors w (start .args .s .now) (start .args .at) _ fits _ (p .1 .1 .0),
-          front-symbols w (start .args .s .now) (start .args .at) _ fits _ (p .1 .1 .1),
-        ),
-      ),
-    )
+    let start = front c in
+    (start .pre .0 .1, front-multiplying (given start) (whole-sixteens (length (start .args .w .now))))
 
 sub-multiply-few : tie.Need-sub-multiply-few
-sub-multiply-few c = whole-sixteens (length (c .before .before .before .before .before .before .before .args .w .now))
-
-part-multiply-few-start : tie.Need-part-multiply-few-start
-part-multiply-few-start c = search needs
-
-part-multiply-few-end : tie.Need-part-multiply-few-end
-part-multiply-few-end c = search needs
-
-add-multiply-few : tie.Need-add-multiply-few
-add-multiply-few c = search needs
+sub-multiply-few c = whole-sixteens (length (front (c .before .before .before) .args .w .now))
 
 multiply-few-requires : tie.Need-multiply-few-requires
-unfolding multiplied
 multiply-few-requires c κs =
-    let start = c .before .before .before .before .before .before .before .before .before in
-    let w = start .args .w .now in
-    let l = start .args .s .now in
-    let p = start .pre in
-    let fits = whole-sixteens (length w) in
-    let fronted = c .before .before .before .before .multiply-front in (
-      p .0,
-      (
-        omega (arith, p .1 .0, rest-length w l (start .args .at) _ fits, fronted .kept),
-        (
-          back-factors w l (start .args .at) _ fits _ (p .1 .1 .0),
-          back-symbols w l (start .args .at) _ fits (product start) (fronted .ensures) _ (p .1 .1 .1),
-        ),
-      ),
-    )
-
-same-length : tie.Need-same-length
-same-length c = search needs
+    let first = fronted c in
+    let start = front (first .before) in
+    (start .pre .0 .1, back-multiplying (given start) (whole-sixteens (length (start .args .w .now))) (first .multiply-front .ensures))
 
 returns : tie.Need-returns
-unfolding multiplied
 returns c =
-    let start = c .before .before .before .before .before .before .before .before .before .before .before .before in
-    let w = start .args .w .now in
-    both-parts w (start .args .s .now) (start .args .at) _ (whole-sixteens (length w)) (product start)
-    (c .before .before .before .before .before .before .before .multiply-front .ensures) (c .before .before .multiply-few .ensures)
+    let first = fronted (back c) in
+    let start = front (first .before) in
+    multiplied-parts (given start) (whole-sixteens (length (start .args .w .now))) (first .multiply-front .ensures)
+    (c .before .before .multiply-few .ensures)
 
 pub multiply-spec : {M : Type 1} → statement M
 multiply-spec =
-    tie.close
-    (tie.spec
-    mul-many
-    slice-aggregate-multiply-front
-    multiply-front-requires
-    sub-multiply-few
-    part-multiply-few-start
-    part-multiply-few-end
-    add-multiply-few
-    multiply-few-requires
-    same-length
-    returns)
+    tie.close (tie.spec mul-many slice-aggregate-multiply-front multiply-front-requires sub-multiply-few
+    (λ c. search needs) (λ c. search needs) (λ c. search needs) multiply-few-requires (λ c. search needs) returns)

@@ -1,96 +1,49 @@
--- `field::lists::multiply_by_bits` multiplies the symbols, one after the other.
+-- `lists::multiply_by_bits` multiplies the symbols, one after the other.
 -- Assumes nothing.
-use mathlib.Core.Path.{_≡_, sym, ap}
-use Prim.Native.Nat.{ℕ, _-_, _≤_}
-use native.Mathlib.Nat.{zero-add}
+use Prim.Native.Nat.{_+_, _-_, _<_}
 use native.Mathlib.Omega.{arith}
-use lib.ListN.{length, getD}
-use Rattle.patch.specs.Patch.{patch}
-use Rattle.patch.proofs.Laws.{patch-none, length-patch, patch-step, here}
+use lib.ListN.{length}
+use Rattle.patch.proofs.Loops.{Filling, filling, slot, kept-length, filled}
 use Rattle.field.specs.Symbols.{plus}
 use Rattle.lists.specs.Lists.{multiplied}
-use Rattle.field.proofs.Sums.{plus-below}
-use Rattle.lists.proofs.InParts.{as-before, multiplied-is}
+use Rattle.lists.proofs.InParts.{left-symbol, right-symbol, multiplied-turn}
 use borrow.Author.Needs.{needs}
 use Rattle.lists.proofs.multiply_by_bits.Statement.{statement}
 use Rattle.lists.proofs.multiply_by_bits.Tie as tie
 
 abbrev Inv-loop : tie.InvT-loop
-Inv-loop degree half low w a s₀ at b i₀ s i = (i ≤ length w) × (s ≡ patch at i (multiplied degree w a s₀ at b) s₀)
+Inv-loop degree half low w a s₀ at b i₀ s i = Filling at (length w) (multiplied degree w a s₀ at b) s₀ s i
 
 abbrev μ-loop : tie.MeasureT-loop
 μ-loop degree half low w a s₀ at b i₀ s i = length w - i
 
-loop-holds : tie.Need-loop-holds Inv-loop μ-loop
-loop-holds c = (search needs, sym (patch-none _ _ _))
+abbrev start : tie.In-loop Inv-loop μ-loop → tie.Start Inv-loop μ-loop
+start c = c .before .before .before .before
 
-shared-slice-read-product-by-bits : tie.Need-shared-slice-read-product-by-bits Inv-loop μ-loop
-shared-slice-read-product-by-bits c = search needs
+abbrev reading : tie.After-slice-known2 Inv-loop μ-loop → tie.In-loop Inv-loop μ-loop
+reading c = c .before .before
 
-add-product-by-bits : tie.Need-add-product-by-bits Inv-loop μ-loop
-add-product-by-bits c = search needs
-
-slice-read-product-by-bits : tie.Need-slice-read-product-by-bits Inv-loop μ-loop
-slice-read-product-by-bits c =
-    rw (c .before .before .before .loop .inv .1) (rw length-patch (omega (arith, c .before .before .loop-test .taken, c .before .before .before .before .before .before .pre .1 .0)))
+next : (c : tie.In-loop Inv-loop μ-loop) → start c .args .at + c .before .loop .i < length (c .before .loop .s)
+next c = slot (c .before .loop .inv) (c .loop-test .taken) (start c .pre .1 .room)
 
 product-by-bits-requires : tie.Need-product-by-bits-requires Inv-loop μ-loop
 unfolding plus
 product-by-bits-requires c κs =
-    let start = c .before .before .before .before .before .before in
-    let i = c .before .before .before .loop .i in
-    let h = c .before .before .loop-test .taken in (
-      (start .pre .0 .0, start .pre .0 .1),
-      (
-        plus-below _ _ _ (as-before (ap (λ (x : ℕ). getD (start .args .w .now) x 0) (sym (zero-add i))) (start .pre .1 .1 .0 i h)) (start .pre .0 .2),
-        plus-below _ _ _ (as-before (here _ _ _ _ (c .before .before .before .loop .inv .1) 0) (start .pre .1 .1 .1 i h)) (start .pre .0 .3),
-      ),
-    )
-
-add-s : tie.Need-add-s Inv-loop μ-loop
-add-s c = search needs
-
-slice-write-s : tie.Need-slice-write-s Inv-loop μ-loop
-slice-write-s c =
-    rw (c .before .before .before .before .loop .inv .1) (rw length-patch (omega (arith, c .before .before .before .loop-test .taken, c .before .before .before .before .before .before .before .pre .1 .0)))
-
-add-i : tie.Need-add-i Inv-loop μ-loop
-add-i c = search needs
-
-loop-less : tie.Need-loop-less Inv-loop μ-loop
-loop-less c = search needs
+    let here = reading c in
+    let p = start here .pre in
+    let left = left-symbol (p .1) (here .before .loop .inv) (here .loop-test .taken) in
+    let right = right-symbol (p .1) (here .before .loop .inv) (here .loop-test .taken) in
+    (p .0, (left, right))
 
 loop-again : tie.Need-loop-again Inv-loop μ-loop
 unfolding plus
 loop-again c =
-    let inv = c .before .before .before .before .loop .inv .1 in (
-      omega (arith, c .before .before .before .loop-test .taken),
-      patch-step _ _ _ _ inv (multiplied-is _ _ _ _ _ _ _ (c .product-by-bits .ensures) (here _ _ _ _ inv 0)),
-    )
-
-same-length : tie.Need-same-length Inv-loop μ-loop
-same-length c = rw (c .before .loop .inv .1) (length-patch _ _ _ _)
-
-returns : tie.Need-returns Inv-loop μ-loop
-returns c =
-    let whole : c .before .loop .i ≡ length (c .before .before .before .before .args .w .now) = omega arith in
-    rw (← whole) (c .before .loop .inv .1)
+    let here = reading (c .before) in
+    multiplied-turn (start here .pre .1) (here .before .loop .inv) (here .loop-test .taken) (c .product-by-bits .ensures)
 
 pub multiply-by-bits-spec : {M : Type 1} → statement M
 multiply-by-bits-spec =
-    tie.close
-    (tie.spec
-    Inv-loop
-    μ-loop
-    loop-holds
-    shared-slice-read-product-by-bits
-    add-product-by-bits
-    slice-read-product-by-bits
-    product-by-bits-requires
-    add-s
-    slice-write-s
-    add-i
-    loop-less
-    loop-again
-    same-length
-    returns)
+    tie.close (tie.spec Inv-loop μ-loop (λ c. filling) (λ c. search needs) (λ c. search needs) (λ c. next (reading c))
+    product-by-bits-requires (λ c. search needs) (λ c. next (reading (c .before))) (λ c. search needs)
+    (λ c. search needs) loop-again (λ c. kept-length (c .before .loop .inv))
+    (λ c. filled (c .before .loop .inv) (omega arith)))

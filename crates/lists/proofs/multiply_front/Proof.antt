@@ -1,4 +1,4 @@
--- `field::lists::multiply_front` multiplies, unless there is nothing to multiply.
+-- `lists::multiply_front` multiplies, unless there is nothing to multiply.
 -- Assumes nothing.
 use mathlib.Core.Path.{sym}
 use Rattle.patch.proofs.Laws.{patch-none}

@@ -1,4 +1,4 @@
--- `field::lists::multiply_sixteens` multiplies bit by bit, with what a doubling needs taken from the table.
+-- `lists::multiply_sixteens` multiplies bit by bit, with what a doubling needs taken from the table.
 -- Assumes nothing.
 use mathlib.Core.Path.{ap, _∙_}
 use Prim.Native.Nat.{ℕ, _/_}
@@ -9,41 +9,20 @@ use borrow.Author.Needs.{needs}
 use Rattle.lists.proofs.multiply_sixteens.Statement.{statement}
 use Rattle.lists.proofs.multiply_sixteens.Tie as tie
 
-size-requires : tie.Need-size-requires
-size-requires c κs = search needs
+abbrev start : tie.After-size → tie.Start
+start c = c .before .before .before
 
 cast-half : tie.Need-cast-half
-cast-half c = omega (arith, c .size .ensures, field-size _ (c .before .before .before .pre .0 .0))
-
-low-bits-requires : tie.Need-low-bits-requires
-low-bits-requires c κs = search needs
+cast-half c = omega (arith, c .size .ensures, field-size _ (start c .pre .1 .degree))
 
 multiply-by-bits-requires : tie.Need-multiply-by-bits-requires
 multiply-by-bits-requires c κs =
-    let start = c .before .before .before .before .before in
-    let p = start .pre in (
-      (
-        p .0 .0,
-        record { top = ap (λ (x : ℕ). x / 2) (c .before .before .size .ensures) ∙ half-size _ (positive _ (p .0 .0)); rest = c .before .low-bits .ensures },
-        p .0 .2,
-        p .0 .3,
-      ),
-      p .1,
-    )
-
-same-length : tie.Need-same-length
-same-length c = search needs
-
-returns : tie.Need-returns
-returns c = search needs
+    let sized = c .before .before in
+    let given = start sized .pre .1 in
+    let half = ap (λ (x : ℕ). x / 2) (sized .size .ensures) ∙ half-size _ (positive _ (given .degree)) in
+    (record { degree = given .degree; top = half; rest = c .before .low-bits-from .ensures }, given)
 
 pub multiply-sixteens-spec : {M : Type 1} → statement M
 multiply-sixteens-spec =
-    tie.close
-    (tie.spec
-    size-requires
-    cast-half
-    low-bits-requires
-    multiply-by-bits-requires
-    same-length
-    returns)
+    tie.close (tie.spec (λ c κs. search needs) cast-half (λ c κs. search needs) multiply-by-bits-requires
+    (λ c. search needs) (λ c. search needs))

@@ -1,4 +1,4 @@
--- `field::lists::symbol_of` is the remainder.
+-- `lists::symbol_of` is the remainder.
 -- Assumes nothing.
 use mathlib.Core.Path.{ap}
 use Prim.Native.Nat.{ℕ, _%_}
@@ -18,7 +18,8 @@ rem-result c = omega (arith, c .size .ensures, pow-pos (c .before .args .degree)
 
 cast-result : tie.Need-cast-result
 cast-result c =
-    omega (arith, mod-lt (c .before .args .x) {m = c .size .result} (omega (arith, c .size .ensures, pow-pos (c .before .args .degree))), c .size .ensures, field-size _ (c .before .pre))
+    let below = mod-lt (c .before .args .x) {m = c .size .result} (omega (arith, rem-result c)) in
+    omega (arith, below, c .size .ensures, field-size _ (c .before .pre))
 
 returns : tie.Need-returns
 returns c = ap (λ (m : ℕ). c .before .args .x % m) (c .size .ensures)

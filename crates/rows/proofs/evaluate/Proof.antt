@@ -1,14 +1,14 @@
 -- `rows::evaluate` goes from the last Newton coefficient to the first, at all points at once.
 -- Assumes nothing.
-use mathlib.Core.Path.{_≡_, sym, _∙_}
+use mathlib.Core.Path.{_≡_, _∙_}
 use mathlib.Core.List.{map}
-use Prim.Native.Nat.{_+_, _≤_, _<_}
+use Prim.Native.Nat.{_≤_, _<_}
 use native.Mathlib.Omega.{arith}
 use lib.ListN.{length}
 use Rattle.patch.specs.Parts.{lay}
 use Rattle.patch.proofs.Parts.{length-lay}
 use Rattle.rows.proofs.Symbols.{symbol-at, symbols-whole}
-use Rattle.rows.proofs.Evaluation.{inner, values-start, values-in, values-step, values-end}
+use Rattle.rows.proofs.Evaluation.{Evaluating, inner, values-start, values-fit, values-in, values-step, values-end}
 use borrow.Author.Needs.{needs}
 use Rattle.rows.proofs.evaluate.Statement.{statement}
 use Rattle.rows.proofs.evaluate.Tie as tie
@@ -19,114 +19,103 @@ Inv-loop table degree xs nodes us s₀ at j₀ s j = (0 < j) × (j ≤ length us
 abbrev μ-loop : tie.MeasureT-loop
 μ-loop table degree xs nodes us s₀ at j₀ s j = j
 
-clear-requires : tie.Need-clear-requires Inv-loop μ-loop
-clear-requires c κs = search needs
+abbrev start : tie.After-clear Inv-loop μ-loop → tie.Start Inv-loop μ-loop
+start c = c .before .before .before .before .before .before
+
+abbrev cleared : tie.At-loop Inv-loop μ-loop → tie.After-clear Inv-loop μ-loop
+cleared c = c .before .before .before
+
+abbrev reading : tie.After-shared-slice-known5 Inv-loop μ-loop → tie.In-loop Inv-loop μ-loop
+reading c = c .before .before .before
+
+abbrev multiplied : tie.After-slice-known3 Inv-loop μ-loop → tie.In-loop Inv-loop μ-loop
+multiplied c = reading (c .before .before .before)
+
+abbrev ended : tie.After-add-constant-arg Inv-loop μ-loop → tie.At-loop Inv-loop μ-loop
+ended c = c .before .before .before
+
+given : (c : tie.Start Inv-loop μ-loop)
+    → Evaluating (c .args .degree) (c .args .xs .now) (c .args .nodes .now) (c .args .us .now) (c .args .s .now) (c .args .at)
+given c =
+    let p = c .pre in
+    record {
+      degree = p .0 .0;
+      points = p .1 .0 .0;
+      nodes-in = p .1 .0 .1;
+      coefficients = p .1 .0 .2;
+      some = p .1 .1 .0;
+      enough = p .1 .1 .1;
+      room = p .1 .1 .2;
+    }
 
 loop-holds : tie.Need-loop-holds Inv-loop μ-loop
 loop-holds c =
-    let start = c .before .before .before .before .before .before .before .before in
-    let p = start .pre in
-    (p .1 .1 .0, omega arith, values-start (start .args .degree) (p .0 .0) (start .args .nodes .now) (start .args .us .now) (p .1 .1 .1) (start .args .at) (start .args .xs .now) (start .args .s .now) (p .1 .1 .2) (c .before .before .clear .ensures))
+    let first = c .before .before in
+    let g = given (start first) in
+    (g .some, omega arith, values-start g (first .clear .ensures))
 
-sub-multiply : tie.Need-sub-multiply Inv-loop μ-loop
-sub-multiply c = omega (arith, c .loop-test .taken)
-
-shared-slice-read-multiply : tie.Need-shared-slice-read-multiply Inv-loop μ-loop
-shared-slice-read-multiply c = omega (arith, c .before .before .loop .inv, c .before .loop-test .taken, c .before .before .before .before .before .before .before .before .before .before .before .pre .1 .1)
-
-sub-multiply-2 : tie.Need-sub-multiply-2 Inv-loop μ-loop
-sub-multiply-2 c = omega (arith, c .before .before .loop-test .taken)
-
-shared-slice-read-multiply-2 : tie.Need-shared-slice-read-multiply-2 Inv-loop μ-loop
-shared-slice-read-multiply-2 c = omega (arith, c .before .before .before .before .loop .inv, c .before .before .before .loop-test .taken, c .before .before .before .before .before .before .before .before .before .before .before .before .before .pre .1 .1)
+-- a turn's node is one of those that there are
+places : (c : tie.In-loop Inv-loop μ-loop) → c .before .loop .j ≤ length (start (cleared (c .before)) .args .nodes .now)
+places c = omega (arith, c .before .loop .inv .1, given (start (cleared (c .before))) .enough)
 
 multiply-requires : tie.Need-multiply-requires Inv-loop μ-loop
 multiply-requires c κs =
-    let start = c .before .before .before .before .before .before .before .before .before .before .before .before .before in
-    let p = start .pre in
-    let n = start .args .nodes .now in
-    let us = start .args .us .now in
-    let xs = start .args .xs .now in
-    let long : length (c .before .before .before .before .before .before .before .clear .last .0) ≡ length (start .args .s .now) = c .before .before .before .before .before .before .before .clear .kept .0 in
-    let fits : start .args .at + length xs ≤ length (c .before .before .before .before .before .before .before .clear .last .0) = omega (arith, p .1 .1) in
-    let turn = c .before .before .before .before .loop in
-    let more = c .before .before .before .loop-test .taken in (
+    let here = reading c in
+    let turn = here .before .loop in
+    let first = cleared (here .before) in
+    let a = start first .args in
+    let g = given (start first) in
+    let more = here .loop-test .taken in (
       (
-        p .0 .0,
-        p .0 .1,
-        symbol-at (start .args .degree) n _ (p .1 .0 .1) (omega (arith, turn .inv, more, p .1 .1)),
-        symbol-at (start .args .degree) us _ (p .1 .0 .2) (omega (arith, turn .inv, more)),
+        g .degree,
+        start first .pre .0 .1,
+        symbol-at _ (a .nodes .now) _ (g .nodes-in) (omega (arith, places here, more)),
+        symbol-at _ (a .us .now) _ (g .coefficients) (omega (arith, turn .inv .1, more)),
       ),
-      (rw (turn .inv .2, length-lay) fits, (symbols-whole (start .args .degree) xs (p .1 .0 .0), values-in (start .args .degree) (p .0 .0) n us (p .1 .1 .1) (start .args .at) xs _ fits (turn .j) (turn .inv .2))),
+      (
+        values-fit g (first .clear .ensures) (turn .j) (turn .inv .2),
+        (symbols-whole _ (a .xs .now) (g .points), values-in g (first .clear .ensures) (turn .j) (turn .inv .2)),
+      ),
     )
-
-sub-j : tie.Need-sub-j Inv-loop μ-loop
-sub-j c = omega (arith, c .before .before .before .before .before .before .loop-test .taken)
-
-loop-less : tie.Need-loop-less Inv-loop μ-loop
-loop-less c = omega (arith, c .before .before .before .before .before .before .loop-test .taken)
 
 loop-again : tie.Need-loop-again Inv-loop μ-loop
 loop-again c =
-    let start = c .before .before .before .before .before .before .before .before .before .before .before .before .before .before .before .before in
-    let p = start .pre in
-    let n = start .args .nodes .now in
-    let us = start .args .us .now in
-    let xs = start .args .xs .now in
-    let long : length (c .before .before .before .before .before .before .before .before .before .before .clear .last .0) ≡ length (start .args .s .now) = c .before .before .before .before .before .before .before .before .before .before .clear .kept .0 in
-    let fits : start .args .at + length xs ≤ length (c .before .before .before .before .before .before .before .before .before .before .clear .last .0) = omega (arith, p .1 .1) in
-    let turn = c .before .before .before .before .before .before .before .loop in
-    let more = c .before .before .before .before .before .before .loop-test .taken in
-    (omega (arith, more), omega (arith, turn .inv .1), values-step (start .args .degree) (p .0 .0) n us (p .1 .1 .1) (start .args .at) xs _ fits (turn .j) (omega (arith, more)) (turn .inv .1) (turn .inv .2) (c .before .before .multiply .ensures))
-
-shared-slice-read-add-constant : tie.Need-shared-slice-read-add-constant Inv-loop μ-loop
-shared-slice-read-add-constant c = omega (arith, c .before .before .before .before .before .before .before .before .before .before .before .pre .1 .1)
+    let here = multiplied c in
+    let turn = here .before .loop in
+    let first = cleared (here .before) in
+    let more = here .loop-test .taken in
+    let then = c .before .before .multiply .ensures in (
+      omega (arith, more),
+      omega (arith, turn .inv .1),
+      values-step (given (start first)) (first .clear .ensures) (turn .j) (omega (arith, more)) (turn .inv .1) (turn .inv .2) then,
+    )
 
 add-constant-requires : tie.Need-add-constant-requires Inv-loop μ-loop
 add-constant-requires c κs =
-    let start = c .before .before .before .before .before .before .before .before .before .before .before .before in
-    let p = start .pre in
-    let xs = start .args .xs .now in
-    let long : length (c .before .before .before .before .before .before .clear .last .0) ≡ length (start .args .s .now) = c .before .before .before .before .before .before .clear .kept .0 in
-    let fits : start .args .at + length xs ≤ length (c .before .before .before .before .before .before .clear .last .0) = omega (arith, p .1 .1) in
-    rw (c .before .before .before .loop .inv .2, length-lay) fits
+    let last = ended c in
+    let first = cleared last in
+    values-fit (given (start first)) (first .clear .ensures) (last .loop .j) (last .loop .inv .2)
 
 same-length : tie.Need-same-length Inv-loop μ-loop
 same-length c =
-    let start = c .before .before .before .before .before .before .before .before .before .before .before .before .before .before .before in
-    let long : length (c .before .before .before .before .before .before .before .before .before .clear .last .0) ≡ length (start .args .s .now) = c .before .before .before .before .before .before .before .before .before .clear .kept .0 in
-    c .before .before .add-constant .kept .1 .0 ∙ rw (c .before .before .before .before .before .before .loop .inv .2, length-lay) long
+    let last = ended (c .before .before .before) in
+    c .before .before .add-constant .kept .1 .0 ∙ rw (last .loop .inv .2, length-lay) (cleared last .clear .kept .0)
 
 returns : tie.Need-returns Inv-loop μ-loop
 returns c =
-    let start = c .before .before .before .before .before .before .before .before .before .before .before .before .before .before .before in
-    let p = start .pre in
-    let n = start .args .nodes .now in
-    let us = start .args .us .now in
-    let xs = start .args .xs .now in
-    let long : length (c .before .before .before .before .before .before .before .before .before .clear .last .0) ≡ length (start .args .s .now) = c .before .before .before .before .before .before .before .before .before .clear .kept .0 in
-    let fits : start .args .at + length xs ≤ length (c .before .before .before .before .before .before .before .before .before .clear .last .0) = omega (arith, p .1 .1) in
-    let turn = c .before .before .before .before .before .before .loop in
-    let one : turn .j ≡ 1 = omega (arith, turn .inv, c .before .before .before .before .before .loop-test .left) in
-    values-end (start .args .degree) (p .0 .0) n us (p .1 .1 .1) (start .args .at) xs _ fits (start .args .s .now) (p .1 .1 .0) (sym long) (c .before .before .before .before .before .before .before .before .before .clear .ensures) (rw one at (turn .inv .2)) (c .before .before .add-constant .ensures)
+    let after = c .before .before .before in
+    let last = ended after in
+    let first = cleared last in
+    let one : last .loop .j ≡ 1 = omega (arith, last .loop .inv, after .before .before .loop-test .left) in
+    values-end (given (start first)) (first .clear .ensures) one (last .loop .inv .2)
+    (c .before .before .add-constant .ensures)
 
 pub evaluate-spec : {M : Type 1} → statement M
 evaluate-spec =
-    tie.close
-    (tie.spec
-    Inv-loop
-    μ-loop
-    clear-requires
-    loop-holds
-    sub-multiply
-    shared-slice-read-multiply
-    sub-multiply-2
-    shared-slice-read-multiply-2
-    multiply-requires
-    sub-j
-    loop-less
-    loop-again
-    shared-slice-read-add-constant
-    add-constant-requires
-    same-length
-    returns)
+    tie.close (tie.spec Inv-loop μ-loop (λ c κs. search needs) loop-holds (λ c. omega (arith, c .loop-test .taken))
+    (λ c. omega (arith, places (c .before), c .before .loop-test .taken))
+    (λ c. omega (arith, c .before .before .loop-test .taken))
+    (λ c. omega (arith, reading c .before .loop .inv .1, reading c .loop-test .taken)) multiply-requires
+    (λ c. omega (arith, multiplied c .loop-test .taken)) (λ c. omega (arith, multiplied c .loop-test .taken))
+    loop-again (λ c. omega (arith, given (start (cleared (c .before .before))) .some)) add-constant-requires
+    same-length returns)

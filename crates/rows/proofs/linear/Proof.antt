@@ -9,58 +9,30 @@ use borrow.Author.Needs.{needs}
 use Rattle.rows.proofs.linear.Statement.{statement}
 use Rattle.rows.proofs.linear.Tie as tie
 
-add-store : tie.Need-add-store
-add-store c = search needs
+abbrev start : tie.After-store → tie.Start
+start c = c .before .before .before .before .before .before
 
-sub-store : tie.Need-sub-store
-sub-store c = search needs
-
-part-store-start : tie.Need-part-store-start
-part-store-start c = search needs
-
-part-store-end : tie.Need-part-store-end
-part-store-end c = search needs
-
-store-requires : tie.Need-store-requires
-store-requires c κs = search needs
-
-slice-reshare-prefix-linear-of : tie.Need-slice-reshare-prefix-linear-of
-slice-reshare-prefix-linear-of c = search needs
+abbrev stored : tie.After-linear-of-arg → tie.After-store
+stored c = c .before .before .before
 
 -- the copy has all coefficients
-front : (c : tie.After-linear-of-arg) → length (take (c .before .before .before .before .before .before .before .before .before .args .m) (c .before .before .before .store .last .1 .0)) ≡ c .before .before .before .before .before .before .before .before .before .args .m
-front c = length-take-le (c .before .before .before .before .before .before .before .before .before .args .m) (c .before .before .before .store .last .1 .0) (omega (arith, c .before .before .before .store .kept, c .before .before .before .before .before .before .before .before .before .pre .1))
-
-slice-aggregate-linear-of : tie.Need-slice-aggregate-linear-of
-slice-aggregate-linear-of c = sym (front c)
+front : (c : tie.After-store) → length (take (start c .args .m) (c .store .last .1 .0)) ≡ start c .args .m
+front c = length-take-le _ _ (omega (arith, c .store .kept, start c .pre .1))
 
 linear-of-requires : tie.Need-linear-of-requires
-linear-of-requires c κs = let start = c .before .before .before .before .before .before .before .before .before .before in (start .pre .0, omega (arith, start .pre .1, front (c .before)))
-
-same-length : tie.Need-same-length
-same-length c = search needs
-
-same-length-2 : tie.Need-same-length-2
-same-length-2 c = search needs
+linear-of-requires c κs =
+    let first = stored (c .before) in
+    (start first .pre .0, omega (arith, start first .pre .1, front first))
 
 returns : tie.Need-returns
 returns c =
-    let start = c .before .before .before .before .before .before .before .before .before .before .before .before .before in
-    let copy = copied (start .args .at) (start .args .m) (start .args .s .now) (start .args .w .now) (start .pre .1 .0) (omega (arith, start .pre .1)) (c .before .before .before .before .before .before .before .store .ensures) in
+    let first = stored (c .before .before .before .before) in
+    let room = start first .pre .1 in
+    let copy = copied _ _ _ (start first .args .w .now) (room .0) (omega (arith, room)) (first .store .ensures) in
     rw copy at (c .before .before .linear-of .ensures)
 
 pub linear-spec : {M : Type 1} → statement M
 linear-spec =
-    tie.close
-    (tie.spec
-    add-store
-    sub-store
-    part-store-start
-    part-store-end
-    store-requires
-    slice-reshare-prefix-linear-of
-    slice-aggregate-linear-of
-    linear-of-requires
-    same-length
-    same-length-2
-    returns)
+    tie.close (tie.spec (λ c. search needs) (λ c. search needs) (λ c. search needs) (λ c. search needs)
+    (λ c κs. search needs) (λ c. search needs) (λ c. sym (front (stored c))) linear-of-requires (λ c. search needs)
+    (λ c. search needs) returns)

@@ -1,15 +1,15 @@
 -- `rows::reduce` takes the inverses of a round and does it, one round after the other.
 -- Assumes nothing.
 use mathlib.Core.Path.{_≡_, sym, _∙_}
-use Prim.Native.Nat.{ℕ, _-_, _≤_}
+use Prim.Native.Nat.{_-_, _≤_}
 use native.Mathlib.Omega.{arith}
 use lib.ListN.{length}
 use lib.Seq.{length-take-le}
 use Rattle.patch.specs.Parts.{part, lay}
-use Rattle.patch.proofs.Parts.{length-part, length-lay, lay-part}
+use Rattle.patch.proofs.Parts.{length-lay, lay-part}
 use Rattle.field.specs.Arithmetic.{gf}
 use Rattle.poly.proofs.Forms.{reduce}
-use Rattle.rows.proofs.Rounds.{round-step, round-symbols}
+use Rattle.rows.proofs.Rounds.{Reducing, next-round, round-done}
 use Rattle.rows.proofs.Sharing.{front-inverses}
 use borrow.Author.Needs.{needs}
 use Rattle.rows.proofs.reduce.Statement.{statement}
@@ -22,70 +22,59 @@ Inv-loop table degree points k s₀ at w₀ j₀ s w j =
 abbrev μ-loop : tie.MeasureT-loop
 μ-loop table degree points k s₀ at w₀ j₀ s w j = k - j
 
+abbrev start : tie.In-loop Inv-loop μ-loop → tie.Start Inv-loop μ-loop
+start c = c .before .before .before .before
+
+abbrev inverted : tie.After-round-arg Inv-loop μ-loop → tie.After-inverses Inv-loop μ-loop
+inverted c = c .before .before .before
+
+abbrev round-of : tie.After-slice-known2 Inv-loop μ-loop → tie.After-round-arg Inv-loop μ-loop
+round-of c = c .before .before .before
+
+given : (c : tie.Start Inv-loop μ-loop)
+    → Reducing (c .args .degree) (c .args .points .now) (c .args .k) (c .args .s .now) (c .args .at)
+given c =
+    let p = c .pre in
+    record { degree = p .0 .0; points = p .0 .2; rounds = p .1 .0 .0; few = p .1 .0 .1; room = p .1 .0 .2; symbols = p .1 .1 }
+
 loop-holds : tie.Need-loop-holds Inv-loop μ-loop
 unfolding reduce
-loop-holds c =
-    let start = c .before .before in
-    (omega arith, sym (lay-part (start .args .at) (length (start .args .points .now)) (start .args .s .now) (start .pre .1 .0 .2)), search needs)
-
-slice-aggregate-inverses : tie.Need-slice-aggregate-inverses Inv-loop μ-loop
-slice-aggregate-inverses c = search needs
+loop-holds c = (omega arith, sym (lay-part _ _ _ (given (c .before .before) .room)), search needs)
 
 inverses-requires : tie.Need-inverses-requires Inv-loop μ-loop
 inverses-requires c κs =
-    let p = c .before .before .before .before .before .pre in
-    (p .0, (omega (arith, c .before .loop-test .taken, p .1 .0), omega (arith, c .before .before .loop .inv .2, p .1 .0)))
-
-add-w : tie.Need-add-w Inv-loop μ-loop
-add-w c = search needs
-
-sub-w : tie.Need-sub-w Inv-loop μ-loop
-sub-w c = search needs
+    let here = c .before in
+    let g = given (start here) in (
+      start here .pre .0 .1,
+      record {
+        degree = g .degree;
+        points = g .points;
+        place = omega (arith, here .loop-test .taken, g .rounds);
+        room = omega (arith, here .before .loop .inv .2, g .few);
+      },
+    )
 
 array-share-prefix-w : tie.Need-array-share-prefix-w Inv-loop μ-loop
 array-share-prefix-w c = search needs
 
-slice-aggregate-round : tie.Need-slice-aggregate-round Inv-loop μ-loop
-slice-aggregate-round c = sym (length-take-le _ _ (array-share-prefix-w (c .before)))
-
 round-requires : tie.Need-round-requires Inv-loop μ-loop
 round-requires c κs =
-    let start = c .before .before .before .before .before .before .before .before .before in
-    let turn = c .before .before .before .before .before .before .loop in
-    let d = start .args .degree in
-    let p = start .pre in
-    let xs = start .args .points .now in
-    let l = start .args .s .now in (
-      p .0,
-      (
-        (omega (arith, c .before .before .before .before .before .loop-test .taken, p .1 .0), rw (turn .inv .1, length-lay) (p .1 .0 .2), round-symbols d (p .0 .0) (start .args .at) (turn .j) xs l (p .1 .0 .2) (p .1 .1) (turn .inv .1)),
-        front-inverses d xs (turn .j) (turn .w) (c .before .before .before .inverses .ensures) (omega (arith, turn .inv .2, p .1 .0)),
-      ),
-    )
-
-add-j : tie.Need-add-j Inv-loop μ-loop
-add-j c = search needs
-
-loop-less : tie.Need-loop-less Inv-loop μ-loop
-loop-less c = search needs
+    let here = inverted c .before .before in
+    let turn = here .before .loop in
+    let g = given (start here) in
+    let inverses = front-inverses _ (start here .args .points .now) (turn .j) (turn .w) (inverted c .inverses .ensures)
+    (omega (arith, turn .inv .2, g .few)) in
+    (start here .pre .0 .1, next-round g (here .loop-test .taken) (turn .inv .1) inverses)
 
 loop-again : tie.Need-loop-again Inv-loop μ-loop
 loop-again c =
-    let start = c .before .before .before .before .before .before .before .before .before .before .before .before in
-    let turn = c .before .before .before .before .before .before .before .before .before .loop in
-    let p = start .pre in
-    let xs = start .args .points .now in
-    let l = start .args .s .now in
-    let n : ℕ = length xs in
-    let size : length (part (start .args .at) n l) ≡ n = length-part (start .args .at) n l (p .1 .0 .2) in
-    let more = c .before .before .before .before .before .before .before .before .loop-test .taken in (
-      omega (arith, more),
-      round-step (start .args .degree) (p .0 .0) (start .args .at) (turn .j) xs (part (start .args .at) n l) l size (omega (arith, more, p .1 .0)) (p .1 .0 .2) (turn .inv .1) (c .before .before .round .ensures),
-      c .before .before .before .before .before .before .inverses .kept .1 .1 .1 .1 .0 ∙ turn .inv .2,
+    let first = inverted (round-of c) in
+    let here = first .before .before in
+    let turn = here .before .loop in (
+      omega (arith, here .loop-test .taken),
+      round-done (given (start here)) (here .loop-test .taken) (turn .inv .1) (c .before .before .round .ensures),
+      first .inverses .kept .1 .1 .1 .1 .0 ∙ turn .inv .2,
     )
-
-same-length : tie.Need-same-length Inv-loop μ-loop
-same-length c = rw (c .before .loop .inv .1) (length-lay _ _ _)
 
 returns : tie.Need-returns Inv-loop μ-loop
 returns c =
@@ -94,20 +83,7 @@ returns c =
 
 pub reduce-spec : {M : Type 1} → statement M
 reduce-spec =
-    tie.close
-    (tie.spec
-    Inv-loop
-    μ-loop
-    loop-holds
-    slice-aggregate-inverses
-    inverses-requires
-    add-w
-    sub-w
-    array-share-prefix-w
-    slice-aggregate-round
-    round-requires
-    add-j
-    loop-less
-    loop-again
-    same-length
-    returns)
+    tie.close (tie.spec Inv-loop μ-loop loop-holds (λ c. search needs) inverses-requires (λ c. search needs)
+    (λ c. search needs) array-share-prefix-w (λ c. sym (length-take-le _ _ (array-share-prefix-w (c .before))))
+    round-requires (λ c. search needs) (λ c. search needs) loop-again
+    (λ c. rw (c .before .loop .inv .1) (length-lay _ _ _)) returns)

@@ -7,32 +7,28 @@ use lib.ListN.{replicate}
 use Rattle.patch.specs.Parts.{lay}
 use Rattle.field.specs.Arithmetic.{gf}
 use Rattle.field.proofs.Instance.{field}
-use Rattle.rows.proofs.Evaluation.{zeros, symbols-zero, plain-values}
+use Rattle.rows.proofs.Evaluation.{zeros, plain-values}
+use Rattle.rows.proofs.Symbols.{symbols-zeros}
 use borrow.Author.Needs.{needs}
 use Rattle.rows.proofs.values.Statement.{statement}
 use Rattle.rows.proofs.values.Tie as tie
 
-slice-aggregate-evaluate : tie.Need-slice-aggregate-evaluate
-slice-aggregate-evaluate c = search needs
+abbrev start : tie.After-evaluate-arg → tie.Start
+start c = c .before .before .before .before .before
 
 evaluate-requires : tie.Need-evaluate-requires
 evaluate-requires c κs =
-    let start = c .before .before .before .before .before in
-    let p = start .pre in
-    let d = start .args .degree in
-    let 𝓕 = field d (p .0 .0) in
-    (p .0, ((p .1 .0 .0, symbols-zero (gf d) 𝓕 (replicate 96 0) (zeros (gf d) 𝓕 96), p .1 .0 .1), p .1 .1))
-
-same-length : tie.Need-same-length
-same-length c = search needs
+    let p = start c .pre in
+    (p .0, ((p .1 .0 .0, symbols-zeros _ 96, p .1 .0 .1), p .1 .1))
 
 returns : tie.Need-returns
 returns c =
-    let start = c .before .before .before .before .before .before .before .before in
-    let p = start .pre in
-    let d = start .args .degree in
-    let 𝓕 = field d (p .0 .0) in
-    c .before .before .evaluate .ensures ∙ ap (λ (v : List ℕ). lay (start .args .at) v (start .args .s .now)) (plain-values (gf d) 𝓕 (replicate 96 0) (start .args .p .now) (start .args .xs .now) (zeros (gf d) 𝓕 96) (p .1 .1 .1))
+    let first = start (c .before .before .before) in
+    let a = first .args in
+    let 𝓕 = field (a .degree) (first .pre .0 .0) in
+    let plain = plain-values (gf (a .degree)) 𝓕 (replicate 96 0) _ _ (zeros (gf (a .degree)) 𝓕 96) (first .pre .1 .1 .1) in
+    c .before .before .evaluate .ensures ∙ ap (λ (v : List ℕ). lay (a .at) v (a .s .now)) plain
 
 pub values-spec : {M : Type 1} → statement M
-values-spec = tie.close (tie.spec slice-aggregate-evaluate evaluate-requires same-length returns)
+values-spec =
+    tie.close (tie.spec (λ c. search needs) evaluate-requires (λ c. search needs) returns)

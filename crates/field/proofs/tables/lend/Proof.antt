@@ -10,33 +10,6 @@ use Rattle.field.specs.Tables.{powers, placeOf, placesFrom, tableFrom, t
 use Rattle.field.proofs.tables.lend.Statement.{statement}
 use Rattle.field.proofs.tables.lend.Tie as tie
 
-slice-aggregate-copy : tie.Need-slice-aggregate-copy
-slice-aggregate-copy c = search needs
-
-slice-aggregate-copy-2 : tie.Need-slice-aggregate-copy-2
-slice-aggregate-copy-2 c = search needs
-
-copy-requires : tie.Need-copy-requires
-copy-requires c κs = search needs
-
-slice-aggregate-copy-3 : tie.Need-slice-aggregate-copy-3
-slice-aggregate-copy-3 c = search needs
-
-slice-aggregate-copy-4 : tie.Need-slice-aggregate-copy-4
-slice-aggregate-copy-4 c = search needs
-
-copy-requires-2 : tie.Need-copy-requires-2
-copy-requires-2 c κs = search needs
-
-slice-aggregate-copy-5 : tie.Need-slice-aggregate-copy-5
-slice-aggregate-copy-5 c = search needs
-
-slice-aggregate-copy-6 : tie.Need-slice-aggregate-copy-6
-slice-aggregate-copy-6 c = search needs
-
-copy-requires-3 : tie.Need-copy-requires-3
-copy-requires-3 c κs = search needs
-
 returns : tie.Need-returns
 unfolding IsTable tableOf tableFrom powers placeOf placesFrom timesX modulus plus
 returns c = rw (c .before .before .before .before .if1 .taken) (rw (c .before .copy .ensures .1) refl)
@@ -60,17 +33,6 @@ returns-3 c =
 
 pub lend-spec : {M : Type 1} → statement M
 lend-spec =
-    tie.close
-    (tie.spec
-    slice-aggregate-copy
-    slice-aggregate-copy-2
-    copy-requires
-    slice-aggregate-copy-3
-    slice-aggregate-copy-4
-    copy-requires-2
-    slice-aggregate-copy-5
-    slice-aggregate-copy-6
-    copy-requires-3
-    returns
-    returns-2
-    returns-3)
+    tie.close (tie.spec (λ c. search needs) (λ c. search needs) (λ c κs. search needs) (λ c. search needs)
+    (λ c. search needs) (λ c κs. search needs) (λ c. search needs) (λ c. search needs) (λ c κs. search needs) returns
+    returns-2 returns-3)

@@ -20,32 +20,20 @@ returns-2 c =
     let g = generated _ (c .before .before .pre .0) in
     rw (c .if2 .taken) (sym (times-comm _ (g .tested) _ 0 ∙ zero-times _ (g .tested) _))
 
-exponent-from-requires : tie.Need-exponent-from-requires
-exponent-from-requires c κs = search needs
-
-exponent-from-requires-2 : tie.Need-exponent-from-requires-2
-exponent-from-requires-2 c κs = search needs
+abbrev start : tie.After-exponent-from2 → tie.Start
+start c = c .before .before .before .before
 
 add-power-from : tie.Need-add-power-from
 add-power-from c =
-    omega (arith, c .before .exponent-from .ensures .within, c .exponent-from2 .ensures .within, field-size _ (c .before .before .before .before .pre .0))
-
-power-from-requires : tie.Need-power-from-requires
-power-from-requires c κs = search needs
+    omega (arith, c .before .exponent-from .ensures .within, c .exponent-from2 .ensures .within, field-size _ (start c .pre .0))
 
 returns-3 : tie.Need-returns-3
 returns-3 c =
-    c .power-from .ensures
-    ∙ product-is _ (generated _ (c .before .before .before .before .before .pre .0)) (c .before .before .exponent-from .ensures) (c .before .exponent-from2 .ensures)
+    let second = c .before in
+    let g = generated _ (start second .pre .0) in
+    c .power-from .ensures ∙ product-is _ g (second .before .exponent-from .ensures) (second .exponent-from2 .ensures)
 
 pub product-from-spec : {M : Type 1} → statement M
 product-from-spec =
-    tie.close
-    (tie.spec
-    returns
-    returns-2
-    exponent-from-requires
-    exponent-from-requires-2
-    add-power-from
-    power-from-requires
-    returns-3)
+    tie.close (tie.spec returns returns-2 (λ c κs. search needs) (λ c κs. search needs) add-power-from
+    (λ c κs. search needs) returns-3)

@@ -14,50 +14,29 @@ use Rattle.field.proofs.tables.quotient_from.Tie as tie
 
 returns : tie.Need-returns
 returns c =
-    let start = c .before in
-    let g = generated _ (start .pre .0) in
-    rw (c .if1 .taken) (sym (over-unique _ g 0 _ 0 (start .pre .1 .1 .0 .1) (pow-pos _) (start .pre .1 .1 .1) (zero-times _ (g .tested) _)))
+    let p = c .before .pre in
+    let g = generated _ (p .0) in
+    let none = zero-times _ (g .tested) _ in
+    rw (c .if1 .taken) (sym (over-unique _ g 0 _ 0 (p .1 .1 .0 .1) (pow-pos _) (p .1 .1 .1) none))
 
-exponent-from-requires : tie.Need-exponent-from-requires
-exponent-from-requires c κs = search needs
-
-exponent-from-requires-2 : tie.Need-exponent-from-requires-2
-exponent-from-requires-2 c κs = search needs
-
-size-requires : tie.Need-size-requires
-size-requires c κs = search needs
-
-sub-power-from : tie.Need-sub-power-from
-sub-power-from c = search needs
-
-sub-power-from-2 : tie.Need-sub-power-from-2
-sub-power-from-2 c = search needs
+abbrev start : tie.After-size → tie.Start
+start c = c .before .before .before .before
 
 add-power-from : tie.Need-add-power-from
 add-power-from c =
-    omega (arith, c .before .before .exponent-from .ensures .within, c .size .ensures, field-size _ (c .before .before .before .before .pre .0))
-
-power-from-requires : tie.Need-power-from-requires
-power-from-requires c κs = search needs
+    omega (arith, c .before .before .exponent-from .ensures .within, c .size .ensures, field-size _ (start c .pre .0))
 
 returns-2 : tie.Need-returns-2
 returns-2 c =
-    let start = c .before .before .before .before .before in
+    let sized = c .before in
+    let second = sized .before in
+    let p = start sized .pre in
     c .power-from .ensures
-    ∙ rw (c .before .size .ensures)
-    (quotient-is _ (generated _ (start .pre .0)) (c .before .before .before .exponent-from .ensures) (c .before .before .exponent-from2 .ensures)
-    (start .pre .1 .1 .0 .1) (start .pre .1 .1 .1))
+    ∙ rw (sized .size .ensures)
+    (quotient-is _ (generated _ (p .0)) (second .before .exponent-from .ensures) (second .exponent-from2 .ensures)
+    (p .1 .1 .0 .1) (p .1 .1 .1))
 
 pub quotient-from-spec : {M : Type 1} → statement M
 quotient-from-spec =
-    tie.close
-    (tie.spec
-    returns
-    exponent-from-requires
-    exponent-from-requires-2
-    size-requires
-    sub-power-from
-    sub-power-from-2
-    add-power-from
-    power-from-requires
-    returns-2)
+    tie.close (tie.spec returns (λ c κs. search needs) (λ c κs. search needs) (λ c κs. search needs)
+    (λ c. search needs) (λ c. search needs) add-power-from (λ c κs. search needs) returns-2)

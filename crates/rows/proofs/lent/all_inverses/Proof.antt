@@ -16,36 +16,40 @@ Inv-loop table degree points k ws₀ j₀ ws j = (j ≤ k) × (length ws ≡ len
 abbrev μ-loop : tie.MeasureT-loop
 μ-loop table degree points k ws₀ j₀ ws j = k - j
 
+abbrev start : tie.In-loop Inv-loop μ-loop → tie.Start Inv-loop μ-loop
+start c = c .before .before .before .before
+
+abbrev inverted : tie.After-slice-known2 Inv-loop μ-loop → tie.After-inverses Inv-loop μ-loop
+inverted c = c .before .before
+
 loop-holds : tie.Need-loop-holds Inv-loop μ-loop
 loop-holds c = (search needs, search needs, no-rounds _ _ _ (c .before .before .pre .1 .1))
 
-mul-inverses : tie.Need-mul-inverses Inv-loop μ-loop
-mul-inverses c = search needs
-
 inverses-requires : tie.Need-inverses-requires Inv-loop μ-loop
 inverses-requires c κs =
-    let p = c .before .before .before .before .before .pre in
-    let own = c .before .before .loop in
-    (p .0, (omega (arith, p .1 .0, c .before .loop-test .taken), omega (arith, p .1 .0, c .before .loop-test .taken, own .inv .1)))
-
-add-j : tie.Need-add-j Inv-loop μ-loop
-add-j c = search needs
-
-loop-less : tie.Need-loop-less Inv-loop μ-loop
-loop-less c = search needs
+    let here = c .before in
+    let p = start here .pre in
+    let counts = p .1 .0 in (
+      p .0 .1,
+      record {
+        degree = p .0 .0;
+        points = p .0 .2;
+        place = omega (arith, counts, here .loop-test .taken);
+        room = omega (arith, counts, here .loop-test .taken, here .before .loop .inv .1);
+      },
+    )
 
 loop-again : tie.Need-loop-again Inv-loop μ-loop
 loop-again c =
-    let start = c .before .before .before .before .before .before .before .before in
-    let own = c .before .before .before .before .before .loop in
-    let more = c .before .before .before .before .loop-test .taken in (
+    let here = inverted c .before .before in
+    let p = start here .pre in
+    let counts = p .1 .0 in
+    let turn = here .before .loop in
+    let more = here .loop-test .taken in (
       omega (arith, more),
-      c .before .before .inverses .kept .1 .1 .1 .1 .0 ∙ own .inv .1,
-      more-rounds (start .args .degree) (start .args .points .now) (start .pre .0 .0) (own .j) (own .ws) (start .pre .1 .0 .1) (omega (arith, start .pre .1 .0, more, own .inv .1)) (own .inv .2) (c .before .before .inverses .ensures),
+      inverted c .inverses .kept .1 .1 .1 .1 .0 ∙ turn .inv .1,
+      more-rounds _ _ (p .0 .0) _ _ (counts .1) (omega (arith, counts, more, turn .inv .1)) (turn .inv .2) (inverted c .inverses .ensures),
     )
-
-same-length : tie.Need-same-length Inv-loop μ-loop
-same-length c = search needs
 
 returns : tie.Need-returns Inv-loop μ-loop
 returns c =
@@ -54,15 +58,5 @@ returns c =
 
 pub all-inverses-spec : {M : Type 1} → statement M
 all-inverses-spec =
-    tie.close
-    (tie.spec
-    Inv-loop
-    μ-loop
-    loop-holds
-    mul-inverses
-    inverses-requires
-    add-j
-    loop-less
-    loop-again
-    same-length
-    returns)
+    tie.close (tie.spec Inv-loop μ-loop loop-holds (λ c. search needs) inverses-requires (λ c. search needs)
+    (λ c. search needs) loop-again (λ c. search needs) returns)

@@ -1,14 +1,14 @@
--- `field::lists::doubling` is x^i times the symbol.
+-- `field::tables::doubling` is x^i times the symbol.
 -- Assumes nothing.
 use mathlib.Core.Path.{sym, _∙_}
 use native.Mathlib.Omega.{arith}
 use Rattle.refusal.proofs.Laws.{field-size, up-to-eight}
 use Rattle.field.proofs.Products.{times-high}
 use Rattle.field.proofs.Instance.{generated}
 use Rattle.field.proofs.Reading.{product-is}
 use Rattle.field.proofs.Powers.{power-small, degree-within}
-use Rattle.lists.proofs.doubling.Statement.{statement}
-use Rattle.lists.proofs.doubling.Tie as tie
+use Rattle.field.proofs.tables.doubling.Statement.{statement}
+use Rattle.field.proofs.tables.doubling.Tie as tie
 
 returns : tie.Need-returns
 returns c =

@@ -1,16 +1,16 @@
--- `field::lists::low_bits` is the polynomial in a byte.
+-- `field::tables::low_bits_from` is the polynomial in a byte.
 -- Assumes nothing.
 use mathlib.Core.Path.{ap, ap₂, _∙_}
 use Prim.Native.Nat.{ℕ, _%_}
 use native.Mathlib.Omega.{arith}
 use lib.Bits.{bitXor}
 use Rattle.refusal.proofs.Laws.{up-to-eight, positive}
 use Rattle.field.specs.Symbols.{plus}
 use Rattle.field.proofs.Powers.{power-degree, degree-within}
 use Rattle.field.proofs.Instance.{generated}
 use borrow.Author.Needs.{needs}
-use Rattle.lists.proofs.low_bits.Statement.{statement}
-use Rattle.lists.proofs.low_bits.Tie as tie
+use Rattle.field.proofs.tables.low_bits_from.Statement.{statement}
+use Rattle.field.proofs.tables.low_bits_from.Tie as tie
 
 power-from-requires : tie.Need-power-from-requires
 power-from-requires c κs =
@@ -29,5 +29,5 @@ returns c =
     ap₂ bitXor (c .before .power-from .ensures) (ap (λ (x : ℕ). x % 256) (c .size .ensures))
     ∙ power-degree _ (generated _ (start .pre .0)) (up-to-eight _ (start .pre .0))
 
-pub low-bits-spec : {M : Type 1} → statement M
-low-bits-spec = tie.close (tie.spec power-from-requires size-requires cast-result returns)
+pub low-bits-from-spec : {M : Type 1} → statement M
+low-bits-from-spec = tie.close (tie.spec power-from-requires size-requires cast-result returns)
