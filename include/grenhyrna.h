@@ -24,13 +24,14 @@
  *   GREN_REFUSED 0    number of the refusal       as they were; the working space too
  *   GREN_CORRECTED 1  number of wrong columns     written: the only nearest code array, and a flag a column, 1 where it was wrong
  *   GREN_NONE 2       0                           as they were: no code array is within the limit
- *   GREN_SEVERAL 3    size of the locators        as they were: more than one way to go on
+ *   GREN_SEVERAL 3    size of the locators        as they were: more than one locator, no multiples of each other
  *   GREN_HOLLOW 4     size of the locator         as they were: a locator was found, and it locates no code array
  *
  * After every decoding that is not refused the first GREN_SPACE bytes of the working space are zero; bytes beyond are never
  * touched. The trial limit may go up to the joint limit, the smaller of (rows·columns − K)/(rows + 1) rounded down and
  * columns − k_max. At the safe limit (columns − k_max)/2 rounded down, or below, any ending but "corrected" and "refused" means that
- * no code array is within the limit.
+ * no code array is within the limit. Above it GREN_SEVERAL and GREN_HOLLOW say nothing of code arrays: none, one or more may be
+ * within the limit.
  *
  * DECODING WITH LOST COLUMNS takes a list of them besides, a byte a column, in any order; a ring's list names sectors, from 0. The
  * ending and its detail are those of the array made of the remaining columns, in their order, with their points, and both limits
