@@ -98,10 +98,11 @@ below (suc n) f t i h =
 abbrev commutes : ℕ → Bool
 commutes d = allBelow d λ i. allBelow d λ j. eqb (times d (2 ^ i) (2 ^ j)) (times d (2 ^ j) (2 ^ i))
 
+abbrev assocAt : ℕ → ℕ → ℕ → ℕ → Bool
+assocAt d i j k = eqb (times d (times d (2 ^ i) (2 ^ j)) (2 ^ k)) (times d (2 ^ i) (times d (2 ^ j) (2 ^ k)))
+
 abbrev associates : ℕ → Bool
-associates d =
-    allBelow d λ i. allBelow d λ j. allBelow d λ k.
-    eqb (times d (times d (2 ^ i) (2 ^ j)) (2 ^ k)) (times d (2 ^ i) (times d (2 ^ j) (2 ^ k)))
+associates d = allBelow d λ i. allBelow d λ j. allBelow d (assocAt d i j)
 
 abbrev closes : ℕ → Bool
 closes d = allBelow d λ i. allBelow d λ j. ltb (times d (2 ^ i) (2 ^ j)) (2 ^ d)
@@ -141,12 +142,8 @@ module _ (d : ℕ) (𝓣 : Tested d) where
   assoc-at : (i j k : ℕ) → i < d → j < d → k < d → times d (times d (2 ^ i) (2 ^ j)) (2 ^ k) ≡ times d (2 ^ i) (times d (2 ^ j) (2 ^ k))
   assoc-at i j k hi hj hk =
       eqb→eq (times d (times d (2 ^ i) (2 ^ j)) (2 ^ k)) (times d (2 ^ i) (times d (2 ^ j) (2 ^ k)))
-      (below d (λ z. eqb (times d (times d (2 ^ i) (2 ^ j)) (2 ^ z)) (times d (2 ^ i) (times d (2 ^ j) (2 ^ z))))
-      (below d (λ y. allBelow d λ z. eqb (times d (times d (2 ^ i) (2 ^ y)) (2 ^ z)) (times d (2 ^ i) (times d (2 ^ y) (2 ^ z))))
-      (below d (λ x. allBelow d λ y. allBelow d λ z. eqb (times d (times d (2 ^ x) (2 ^ y)) (2 ^ z))
-      (times d (2 ^ x) (times d (2 ^ y) (2 ^ z))))
-      (𝓣 .associate) i hi)
-      j hj)
+      (below d (assocAt d i j)
+      (below d (λ y. allBelow d (assocAt d i y)) (below d (λ x. allBelow d λ y. allBelow d (assocAt d x y)) (𝓣 .associate) i hi) j hj)
       k hk)
 
   assoc-third : (i j c : ℕ) → i < d → j < d → c < 2 ^ d → times d (times d (2 ^ i) (2 ^ j)) c ≡ times d (2 ^ i) (times d (2 ^ j) c)

@@ -36,8 +36,9 @@ sixteenth s = omega arith
 
 -- of the degrees, only 8 is above 4
 pub eight : (d : ℕ) → badDegree d ≡ false → 4 < d → d ≡ 8
-eight d h large = ⊎-elim (λ (e : d ≡ 2). absurd (let z : d ≤ 4 = omega arith in omega arith))
-    (⊎-elim (λ (e : d ≡ 4). absurd (let z : d ≤ 4 = omega arith in omega arith)) (λ (e : d ≡ 8). e)) (degrees d h)
+eight d h large =
+    let small : d ≤ 4 → d ≡ 8 = λ z. absurd (omega arith) in
+    ⊎-elim (λ (e : d ≡ 2). small (omega arith)) (⊎-elim (λ (e : d ≡ 4). small (omega arith)) (λ (e : d ≡ 8). e)) (degrees d h)
 
 half-below : (n s : ℕ) → s < 2 ^ suc n → s / 2 < 2 ^ n
 half-below n s h = shr-lt n 1 (rw (add-one n) h)
@@ -98,8 +99,8 @@ unfolding timesLow
 low-zero d a b = refl
 
 -- a bit more
-pub low-step : (d n a b : ℕ) {v higher : ℕ} → higher ≡ timesLow d n (a / 2) b → v ≡ plus (a % 2 * b) (timesX d higher) → v
-    ≡ timesLow d (suc n) a b
+pub low-step : (d n a b : ℕ) {v higher : ℕ} → higher ≡ timesLow d n (a / 2) b → v ≡ plus (a % 2 * b) (timesX d higher)
+    → v ≡ timesLow d (suc n) a b
 unfolding timesLow
 low-step d n a b e is = is ∙ ap (λ (x : ℕ). plus (a % 2 * b) (timesX d x)) e
 

@@ -197,16 +197,9 @@ lay-rest at v l {s} fits is = is-lay at v l (take at l ++ (s ++ none)) fits whol
     size = ap length is ∙ length-lay 0 v rest ∙ left
 
     whole : length (take at l ++ (s ++ none)) ≡ length l
-    whole = omega (
-      arith,
-      length-append (take at l) (s ++ none),
-      length-append s none,
-      front,
-      size,
-      length-drop (length l - at)
-          (drop at l),
-      length-drop at l,
-    )
+    whole =
+        let back : length none ≡ 0 = omega (arith, length-drop (length l - at) (drop at l), length-drop at l) in
+        omega (arith, length-append (take at l) (s ++ none), length-append s none, front, size)
 
     below : (i : ℕ) → i < at → getD (take at l ++ (s ++ none)) i 0 ≡ getD l i 0
     below i h = List·getD-append (take at l) (s ++ none) 0 i (omega (arith, front)) ∙ getD-take at l i 0 h
