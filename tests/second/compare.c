@@ -4,13 +4,13 @@
  *
  *   compare [COUNT [SEED]]    COUNT calls, and half as many with lost columns
  */
+#define _POSIX_C_SOURCE 200112L
 #include "grenhyrna.h"
+#include "halves.h"
 #include "random.h"
 #include "second.h"
 
-#include <stdio.h>
 #include <stdlib.h>
-#include <string.h>
 
 enum { GUARD = 64, ROOM = 1024, SPARE = 200 };
 
@@ -43,15 +43,27 @@ static void both(struct buffer *b)
 /* Calls whose endings are counted apart. */
 enum { MARKS, RINGS, LOST_MARKS, LOST_RINGS, KINDS };
 
+/* What a list of lost columns is like; the first six are good where the largest k allows. */
+enum { EMPTY, FRONT, BACK, ANY_ORDER, FALLING, ALL_BUT_LARGEST, TOO_MANY, TWICE, OUT_OF_RANGE, ALL, TOO_LONG, SHAPES };
+static const char *const shapes[] = {"empty",    "the first", "the last",     "any order", "falling", "all but k_max",
+                                     "too many", "twice",     "out of range", "all",       "too long"};
+
+/* What came about, and of the lists how many were looked at, no earlier check having refused the call. */
+static struct {
+    unsigned long endings[KINDS][5], refusals[KINDS][32], done;
+    unsigned long looked_at[SHAPES], tight_calls, nothing_wrong, bad_where_lost;
+} tried;
+
 static struct buffer lengths, points, lost, first, second, flags;
 static uint8_t space[2][GUARD + SECOND_SPACE + SPARE + GUARD];
 static size_t space_length;
-static unsigned long endings[KINDS][5], refusals[KINDS][32], done;
+
+/* What the working space holds before a call: a part of this list, from any place on. No byte of it is zero. */
+static uint8_t dirt[2 * sizeof space[0]];
 
 static void fill_space(void)
 {
-    for (size_t i = 0; i < sizeof space[0]; i++)
-        space[0][i] = (uint8_t)next();
+    memcpy(space[0], dirt + below(sizeof space[0]), sizeof space[0]);
     memcpy(space[1], space[0], sizeof space[0]);
     space_length = chance(40) ? SECOND_SPACE - 1 - below(3) : SECOND_SPACE + below(SPARE);
 }
@@ -70,17 +82,17 @@ static int same(const char *what, uint32_t a, uint32_t b)
 
 static void count_decoding(int kind, uint32_t answer)
 {
-    endings[kind][gren_code(answer)]++;
+    tried.endings[kind][gren_code(answer)]++;
     if (gren_code(answer) == GREN_REFUSED)
-        refusals[kind][gren_detail(answer)]++;
+        tried.refusals[kind][gren_detail(answer)]++;
 }
 
 static void count_result(int kind, uint32_t answer)
 {
     if (answer == GREN_DONE)
-        done++;
+        tried.done++;
     else
-        refusals[kind][answer]++;
+        tried.refusals[kind][answer]++;
 }
 
 /* A code, nearly always a valid one; the degree is answered. */
@@ -231,6 +243,17 @@ static int compare_mark_decoding(void)
     return same("decoding", a, b);
 }
 
+typedef uint32_t ring_coding(uint32_t q, uint32_t m, const uint8_t *input, size_t input_length, uint8_t *result, size_t result_length);
+
+/* Encoding or reading a ring; the library's number is in *a. */
+static int compare_ring_coding(const char *what, ring_coding *library, ring_coding *other, uint32_t q, uint32_t m,
+                               struct buffer *input, struct buffer *result, uint32_t *a)
+{
+    *a = library(q, m, own(input, 0), input->length, own(result, 0), result->length);
+    count_result(RINGS, *a);
+    return same(what, *a, other(q, m, own(input, 1), input->length, own(result, 1), result->length));
+}
+
 static int compare_ring(void)
 {
     uint32_t q = chance(2) ? 2 : 4, a, b;
@@ -251,10 +274,7 @@ static int compare_ring(void)
     fill(&first, spoil_length(total), (unsigned)symbols);
     spoil_symbol(&first, q < 8 ? q : 8);
     fill(&second, spoil_length(size), 256);
-    a = gren_ring_encode(q, m, own(&first, 0), first.length, own(&second, 0), second.length);
-    b = second_ring_encode(q, m, own(&first, 1), first.length, own(&second, 1), second.length);
-    count_result(RINGS, a);
-    if (!same("encoding a ring", a, b))
+    if (!compare_ring_coding("encoding a ring", gren_ring_encode, second_ring_encode, q, m, &first, &second, &a))
         return 0;
     if (a != GREN_DONE)
         fill(&second, second.length, (unsigned)symbols);
@@ -268,10 +288,7 @@ static int compare_ring(void)
     both(&second);
     spoil_symbol(&second, q < 8 ? q : 8);
     fill(&first, spoil_length(total), 256);
-    a = gren_ring_read(q, m, own(&second, 0), second.length, own(&first, 0), first.length);
-    b = second_ring_read(q, m, own(&second, 1), second.length, own(&first, 1), first.length);
-    count_result(RINGS, a);
-    if (!same("reading a ring", a, b))
+    if (!compare_ring_coding("reading a ring", gren_ring_read, second_ring_read, q, m, &second, &first, &a))
         return 0;
     fill(&first, spoil_length(size), 256);
     fill(&flags, spoil_length(symbols), 256);
@@ -284,14 +301,6 @@ static int compare_ring(void)
 }
 
 /* ---- lost columns */
-
-/* What a list of lost columns is like; the first six are good where the largest k allows. */
-enum { EMPTY, FRONT, BACK, ANY_ORDER, FALLING, ALL_BUT_LARGEST, TOO_MANY, TWICE, OUT_OF_RANGE, ALL, TOO_LONG, SHAPES };
-static const char *const shapes[] = {"empty",    "the first", "the last",     "any order", "falling", "all but k_max",
-                                     "too many", "twice",     "out of range", "all",       "too long"};
-
-/* How many lists were looked at, no earlier check having refused the call, and what came of them. */
-static unsigned long looked_at[SHAPES], tight_calls, nothing_wrong, bad_where_lost;
 
 static void exchange(uint8_t *a, uint8_t *b)
 {
@@ -418,10 +427,10 @@ static void count_lost(const struct call *c, uint32_t answer)
 {
     int refused = gren_code(answer) == GREN_REFUSED;
     count_decoding(c->ring ? LOST_RINGS : LOST_MARKS, answer);
-    looked_at[c->shape] += !refused || answer == GREN_BAD_LOST || answer == GREN_TOO_MANY_LOST || answer == GREN_BAD_LIMIT;
-    tight_calls += !refused && c->tight;
-    nothing_wrong += answer == 256 && lost.length > 0;
-    bad_where_lost += answer == GREN_BAD_SYMBOL && c->bad_lost;
+    tried.looked_at[c->shape] += !refused || answer == GREN_BAD_LOST || answer == GREN_TOO_MANY_LOST || answer == GREN_BAD_LIMIT;
+    tried.tight_calls += !refused && c->tight;
+    tried.nothing_wrong += answer == 256 && lost.length > 0;
+    tried.bad_where_lost += answer == GREN_BAD_SYMBOL && c->bad_lost;
 }
 
 static uint32_t library_lost(const struct call *c, int which)
@@ -538,14 +547,24 @@ static int compare_ring_lost(void)
 
 /* ---- all */
 
-static void start(uint64_t seed)
+static unsigned long count = 20000;
+static uint64_t seed = 20261115;
+
+static void start(uint64_t place)
 {
-    state = seed * 0x9E3779B97F4A7C15u;
+    state = place * 0x9E3779B97F4A7C15u;
     for (int warm = 0; warm < 4; warm++)
         next();
 }
 
-static int print_counts(unsigned long count)
+static void make_dirt(void)
+{
+    start(seed + 1);
+    for (size_t i = 0; i < sizeof dirt; i++)
+        dirt[i] = (uint8_t)(1 + below(255));
+}
+
+static int print_counts(void)
 {
     static const char *const names[KINDS] = {"marks", "rings", "marks with lost columns", "rings with lost sectors"};
     static const uint8_t checks[KINDS][12] = {{1, 2, 3, 4, 5, 6, 7, 8, 9},
@@ -554,12 +573,12 @@ static int print_counts(unsigned long count)
                                               {10, 11, 5, 7, 16, 17, 8}};
     int missing = 0;
     for (int kind = 0; kind < KINDS; kind++) {
-        unsigned long *ends = endings[kind];
+        unsigned long *ends = tried.endings[kind];
         printf("compare: %s: refused %lu, corrected %lu, none %lu, several %lu, hollow %lu; refusals", names[kind], ends[0], ends[1],
                ends[2], ends[3], ends[4]);
         for (const uint8_t *k = checks[kind]; *k; k++) {
-            printf(" %u: %lu", *k, refusals[kind][*k]);
-            missing |= !refusals[kind][*k];
+            printf(" %u: %lu", *k, tried.refusals[kind][*k]);
+            missing |= !tried.refusals[kind][*k];
         }
         printf("\n");
         for (unsigned e = 0; e < 5; e++)
@@ -567,23 +586,24 @@ static int print_counts(unsigned long count)
     }
     printf("compare: lists");
     for (int shape = 0; shape < SHAPES; shape++) {
-        printf("%s %s %lu", shape ? "," : "", shapes[shape], looked_at[shape]);
-        missing |= !looked_at[shape];
+        printf("%s %s %lu", shape ? "," : "", shapes[shape], tried.looked_at[shape]);
+        missing |= !tried.looked_at[shape];
     }
     printf("; decoded with k_max columns remaining %lu, corrected with nothing wrong %lu, refused for a symbol in a lost column %lu\n",
-           tight_calls, nothing_wrong, bad_where_lost);
-    missing |= !tight_calls || !nothing_wrong || !bad_where_lost;
+           tried.tight_calls, tried.nothing_wrong, tried.bad_where_lost);
+    missing |= !tried.tight_calls || !tried.nothing_wrong || !tried.bad_where_lost;
     if (missing && count >= 20000)
         printf("compare: something was never tried: a count is 0\n");
     return missing && count >= 20000;
 }
 
-int main(int argc, char **argv)
+/* Every other four of the cases. */
+static int compare_half(unsigned half)
 {
-    unsigned long count = argc > 1 ? strtoul(argv[1], NULL, 10) : 20000;
-    uint64_t seed = argc > 2 ? strtoull(argv[2], NULL, 10) : 20261115;
     for (unsigned long i = 0; i < count + count / 2; i++) {
         int ok;
+        if (i / 4 % 2 != half)
+            continue;
         start(seed + i + 1);
         if (i >= count)
             ok = i % 3 == 0 ? compare_ring_lost() : compare_mark_lost();
@@ -591,10 +611,20 @@ int main(int argc, char **argv)
             ok = i % 4 == 0 ? compare_mark_coding() : i % 4 == 3 ? compare_ring() : compare_mark_decoding();
         if (!ok) {
             printf("compare: case %lu of seed %llu FAILED\n", i, (unsigned long long)seed);
-            return 1;
+            return 0;
         }
     }
+    return 1;
+}
+
+int main(int argc, char **argv)
+{
+    count = argc > 1 ? strtoul(argv[1], NULL, 10) : count;
+    seed = argc > 2 ? strtoull(argv[2], NULL, 10) : seed;
+    make_dirt();
+    if (!in_halves(compare_half, (unsigned long *)&tried, sizeof tried / sizeof(unsigned long)))
+        return 1;
     printf("compare: %lu cases of seed %llu agree, and %lu with lost columns; encodings and readings done: %lu\n", count,
-           (unsigned long long)seed, count / 2, done);
-    return print_counts(count);
+           (unsigned long long)seed, count / 2, tried.done);
+    return print_counts();
 }

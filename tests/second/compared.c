@@ -1,30 +1,14 @@
-/* The calls of the comparing program (crates/compared), and what it is to write: frames of random calls, right and wrong ones, over
- * all fields, then such with lost columns, and their answers by the second program.
+/* The calls of the comparing program (crates/compared), and what it is to write: the named cases; then frames of random calls, right
+ * and wrong ones, over all fields, then such with lost columns. The answers are the second program's, and in a named case they must
+ * be the expected ones.
  *
- *   compared in|out FILE
+ *   compared in|out FILE CASES
  */
+#include "cases.h"
+#include "frame.h"
 #include "random.h"
-#include "second.h"
 
-#include <stdio.h>
-#include <string.h>
-
-enum { FRAME = 512, CALLS = 600, LOST_CALLS = 240, SPACE_LESS = 49144 };
-enum { LENGTHS = 14, POINTS = 21, SYMBOLS = 118, LOST_COUNT = 503, LOST = 504, MOST_LOST = 8 };
-enum { MARK_LOST = 7, RING_LOST = 6 };
-
-static uint8_t frame[FRAME];
-
-static unsigned number(int at)
-{
-    return frame[at] + 256u * frame[at + 1];
-}
-
-static void set_number(int at, size_t n)
-{
-    frame[at] = (uint8_t)(n % 256);
-    frame[at + 1] = (uint8_t)(n / 256);
-}
+enum { CALLS = 600, LOST_CALLS = 240 };
 
 /* A length that is right but now and then. */
 static size_t spoilt(size_t length)
@@ -184,66 +168,52 @@ static void ring_call(unsigned call)
         frame[SYMBOLS + below((unsigned)(call == 3 ? total : size))] = (uint8_t)next();
 }
 
-static size_t count(unsigned n, unsigned most)
+static void random_call(unsigned i)
 {
-    return n < most ? n : most;
+    memset(frame, 0, sizeof frame);
+    if (i % 3 == 2)
+        ring_call(i < CALLS ? 3 + i / 3 % 3 : RING_LOST);
+    else
+        mark_call(i < CALLS ? i / 3 % 3 : MARK_LOST);
 }
 
-static void answer(FILE *to)
+/* The frame, or its line, which is the expected one where there is one. */
+static void put(FILE *to, int wants_input, const char *expected)
 {
-    static uint8_t result[385], flags[97], space[49399];
-    size_t ks = count(frame[6], 7), xs = count(frame[7], 97), s = count(number(8), 385), a = count(number(10), 385),
-           f = count(frame[12], 97), w = SPACE_LESS + (size_t)frame[13], g = count(frame[LOST_COUNT], MOST_LOST), zeros = 0;
-    const uint8_t *k = frame + LENGTHS, *x = frame + POINTS, *y = frame + SYMBOLS, *lost = frame + LOST;
-    uint32_t r, first = number(1), limit = number(3), m = frame[5];
-    memset(result, 7, sizeof result);
-    memset(flags, 9, sizeof flags);
-    memset(space, 1, sizeof space);
-    switch (frame[0]) {
-    case 0: r = second_mark_encode(first, k, ks, x, xs, y, s, result, a); break;
-    case 1: r = second_mark_read(first, k, ks, x, xs, y, s, result, a); break;
-    case 2: r = second_mark_decode(first, k, ks, x, xs, limit, y, s, result, a, flags, f, space, w); break;
-    case 3: r = second_ring_encode(first, m, y, s, result, a); break;
-    case 4: r = second_ring_read(first, m, y, s, result, a); break;
-    case 5: r = second_ring_decode(first, m, limit, y, s, result, a, flags, f, space, w); break;
-    case RING_LOST: r = second_ring_decode_lost(first, m, limit, lost, g, y, s, result, a, flags, f, space, w); break;
-    default: r = second_mark_decode_lost(first, k, ks, x, xs, limit, lost, g, y, s, result, a, flags, f, space, w); break;
+    char line[LINE];
+    if (wants_input) {
+        fwrite(frame, 1, FRAME, to);
+        return;
     }
-    fprintf(to, "%u ", (unsigned)r);
-    for (size_t i = 0; i < a; i++)
-        fprintf(to, "%02x", result[i]);
-    fprintf(to, " ");
-    for (size_t i = 0; i < f; i++)
-        fprintf(to, "%02x", flags[i]);
-    for (size_t i = 0; i < w; i++)
-        zeros += !space[i];
-    fprintf(to, " %zu\n", zeros);
+    answer(line);
+    if (expected && strcmp(line, expected)) {
+        fprintf(stderr, "compared: expected %sthe second program answers %sof %s", expected, line, text);
+        exit(1);
+    }
+    fputs(line, to);
 }
 
 int main(int argc, char **argv)
 {
-    if (argc != 3 || (strcmp(argv[1], "in") && strcmp(argv[1], "out"))) {
-        fprintf(stderr, "usage: compared in|out FILE\n");
+    char expected[LINE];
+    if (argc != 4 || (strcmp(argv[1], "in") && strcmp(argv[1], "out"))) {
+        fprintf(stderr, "usage: compared in|out FILE CASES\n");
         return 2;
     }
-    FILE *to = fopen(argv[2], "wb");
-    if (!to) {
-        perror(argv[2]);
+    int wants_input = !strcmp(argv[1], "in");
+    FILE *to = fopen(argv[2], "wb"), *cases = fopen(argv[3], "r");
+    if (!to || !cases) {
+        perror(to ? argv[3] : argv[2]);
         return 1;
     }
+    while (next_case(cases, expected))
+        put(to, wants_input, expected);
     state = 0x2545F4914F6CDD1Du;
     for (unsigned i = 0; i < CALLS + LOST_CALLS; i++) {
         if (i == CALLS) /* from here each ending and each refusal comes about, of marks and of rings */
             state = 82 * 0x9E3779B97F4A7C15u;
-        memset(frame, 0, sizeof frame);
-        if (i % 3 == 2)
-            ring_call(i < CALLS ? 3 + i / 3 % 3 : RING_LOST);
-        else
-            mark_call(i < CALLS ? i / 3 % 3 : MARK_LOST);
-        if (!strcmp(argv[1], "in"))
-            fwrite(frame, 1, FRAME, to);
-        else
-            answer(to);
+        random_call(i);
+        put(to, wants_input, NULL);
     }
     return fclose(to) ? 1 : 0;
 }

@@ -4,12 +4,12 @@
  *
  *   exhaustive [MOST]    arrays of up to MOST symbols (default 8: all with two rows of four)
  */
+#define _POSIX_C_SOURCE 200112L
 #include "grenhyrna.h"
+#include "halves.h"
 #include "second.h"
 
-#include <stdio.h>
 #include <stdlib.h>
-#include <string.h>
 
 enum { DEGREE = 2, FIELD = 4, MOST_COLUMNS = 4 };
 
@@ -57,7 +57,13 @@ static unsigned size_of(unsigned set)
     return count;
 }
 
-static unsigned long cases[2];
+/* What was tried: arrays with no lost columns and with some, and lists that end as corrected, 16, 17 and 8. */
+static struct {
+    unsigned long cases[2], lists[4];
+} tried;
+
+static size_t most_symbols = 8;
+static unsigned half;
 
 /* The columns of a set as a list, in an order that depends on `turn`: each order of up to three comes about. */
 static size_t listed(unsigned set, unsigned long turn, uint8_t *list)
@@ -102,7 +108,7 @@ static int check(const uint8_t *ks, size_t r, const uint8_t *points, size_t n, u
     uint32_t e = lost ? gren_mark_decode_lost(DEGREE, ks, r, points, n, limit, list, gone, y, r * n, answer, r * n, flags, n, space,
                                               sizeof space)
                       : gren_mark_decode(DEGREE, ks, r, points, n, limit, y, r * n, answer, r * n, flags, n, space, sizeof space);
-    cases[lost > 0]++;
+    tried.cases[lost > 0]++;
     int corrected = gren_code(e) == GREN_CORRECTED;
     int ok = gren_code(e) != GREN_REFUSED;
     if (corrected) {
@@ -126,12 +132,12 @@ static int check(const uint8_t *ks, size_t r, const uint8_t *points, size_t n, u
     return ok;
 }
 
-/* All arrays of a code and all trial limits. In the longest arrays the lost columns take few of the symbols that they could. */
+/* Every other array of a code, and all trial limits. In the longest arrays the lost columns take few of the symbols that they could. */
 static int check_arrays(const uint8_t *ks, size_t r, const uint8_t *points, size_t n, unsigned lost)
 {
     size_t left = n - size_of(lost), free_symbols = r * n <= 6 ? r * n : r * left;
     for (unsigned limit = 0; limit <= second_joint_limit(ks, r, left); limit++)
-        for (unsigned long word = 0; word < 1ul << (2 * free_symbols); word++) {
+        for (unsigned long word = half; word < 1ul << (2 * free_symbols); word += 2) {
             uint8_t y[8];
             unsigned long symbols = word, other = word * 2654435761u >> 7;
             for (size_t i = 0; i < r * n; i++) {
@@ -147,8 +153,6 @@ static int check_arrays(const uint8_t *ks, size_t r, const uint8_t *points, size
         }
     return 1;
 }
-
-static unsigned long lists[4];
 
 /* A code array with other symbols in the lost columns, where there is nothing to find but the numbers of the checks. */
 static int check_list(const uint8_t *ks, size_t r, const uint8_t *points, size_t n, const uint8_t *list, size_t count)
@@ -178,7 +182,7 @@ static int check_list(const uint8_t *ks, size_t r, const uint8_t *points, size_t
             ok &= answer[i] == (refused ? 0xEE : 0);
         for (size_t i = 0; i < n; i++)
             ok &= flags[i] == (refused ? 0xEE : lost >> i & 1 ? 2 : 0);
-        lists[refused == 16 ? 1 : refused == 17 ? 2 : refused == 8 ? 3 : 0]++;
+        tried.lists[refused == 16 ? 1 : refused == 17 ? 2 : refused == 8 ? 3 : 0]++;
         if (!ok)
             return 0;
     }
@@ -210,27 +214,36 @@ static int check_code(const uint8_t *ks, size_t r, const uint8_t *points, size_t
         if (left >= ks[0] && (r == 1 || left >= ks[1]) && !check_arrays(ks, r, points, n, lost))
             return 0;
     }
-    return check_lists(ks, r, points, n);
+    return half || check_lists(ks, r, points, n);
 }
 
-int main(int argc, char **argv)
+static int check_half(unsigned which)
 {
     static const uint8_t points[MOST_COLUMNS] = {2, 0, 3, 1};
-    size_t most = argc > 1 ? strtoul(argv[1], NULL, 10) : 8;
+    half = which;
     for (size_t n = 1; n <= MOST_COLUMNS; n++)
         for (size_t r = 1; r <= 2; r++) {
-            if (r * n > most)
+            if (r * n > most_symbols)
                 continue;
             for (unsigned code = 0; code < 16; code++) {
                 uint8_t ks[2] = {(uint8_t)(1 + code % 4), (uint8_t)(1 + code / 4)};
                 if (ks[0] > n || ks[1] > n || (r == 1 && ks[1] > 1))
                     continue;
                 if (!check_code(ks, r, points, n))
-                    return 1;
+                    return 0;
             }
         }
-    printf("exhaustive: %lu decodings agree with the search over sets of columns, and %lu with lost columns\n", cases[0], cases[1]);
-    printf("exhaustive: lists of lost columns: %lu corrected, refusals 16: %lu 17: %lu 8: %lu\n", lists[0], lists[1], lists[2],
-           lists[3]);
+    return 1;
+}
+
+int main(int argc, char **argv)
+{
+    most_symbols = argc > 1 ? strtoul(argv[1], NULL, 10) : most_symbols;
+    if (!in_halves(check_half, (unsigned long *)&tried, sizeof tried / sizeof(unsigned long)))
+        return 1;
+    printf("exhaustive: %lu decodings agree with the search over sets of columns, and %lu with lost columns\n", tried.cases[0],
+           tried.cases[1]);
+    printf("exhaustive: lists of lost columns: %lu corrected, refusals 16: %lu 17: %lu 8: %lu\n", tried.lists[0], tried.lists[1],
+           tried.lists[2], tried.lists[3]);
     return 0;
 }

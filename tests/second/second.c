@@ -12,7 +12,7 @@ static unsigned modulus(unsigned degree)
     return degree == 2 ? 0x7 : degree == 4 ? 0x13 : 0x11D;
 }
 
-unsigned second_product(unsigned degree, unsigned a, unsigned b)
+static unsigned multiply(unsigned degree, unsigned a, unsigned b)
 {
     unsigned whole = 0;
     for (unsigned i = 0; i < degree; i++)
@@ -22,6 +22,19 @@ unsigned second_product(unsigned degree, unsigned a, unsigned b)
         if (whole >> i & 1)
             whole ^= modulus(degree) << (i - degree);
     return whole;
+}
+
+/* Each product is multiplied out once and then kept. */
+unsigned second_product(unsigned degree, unsigned a, unsigned b)
+{
+    static uint8_t products[9][256][256], known[9];
+    if (!known[degree]) {
+        for (unsigned i = 0; i < 1u << degree; i++)
+            for (unsigned j = 0; j < 1u << degree; j++)
+                products[degree][i][j] = (uint8_t)multiply(degree, i, j);
+        known[degree] = 1;
+    }
+    return products[degree][a][b];
 }
 
 unsigned second_inverse(unsigned degree, unsigned a)
@@ -160,6 +173,23 @@ static int bad_points(uint32_t degree, const uint8_t *points, size_t columns)
     return 0;
 }
 
+/* Checks 1 to 7 of a mark, where `fit` says whether the buffers' lengths are right. */
+static unsigned mark_check(uint32_t degree, const uint8_t *lengths, size_t rows, const uint8_t *points, size_t columns, int fit,
+                           const uint8_t *symbols, size_t count)
+{
+    unsigned k = code_check(degree, lengths, rows, columns);
+    if (k)
+        return k;
+    return !fit ? 5 : bad_points(degree, points, columns) ? 6 : outside(degree, symbols, count) ? 7 : 0;
+}
+
+/* Whether received, answer, flags and working space are as long as a decoding of so many symbols and columns takes them. */
+static int decoding_fits(size_t symbols, size_t columns, size_t received_length, size_t answer_length, size_t flags_length,
+                         size_t space_length)
+{
+    return received_length == symbols && answer_length == symbols && flags_length == columns && space_length >= SECOND_SPACE;
+}
+
 /* ---- marks */
 
 static void encode_rows(unsigned degree, const uint8_t *lengths, size_t rows, const uint8_t *points, size_t columns,
@@ -175,15 +205,10 @@ static void encode_rows(unsigned degree, const uint8_t *lengths, size_t rows, co
 uint32_t second_mark_encode(uint32_t degree, const uint8_t *lengths, size_t rows, const uint8_t *points, size_t columns,
                             const uint8_t *message, size_t message_length, uint8_t *array, size_t array_length)
 {
-    unsigned k = code_check(degree, lengths, rows, columns);
+    int fit = message_length == total(lengths, rows) && array_length == rows * columns;
+    unsigned k = mark_check(degree, lengths, rows, points, columns, fit, message, message_length);
     if (k)
         return k;
-    if (message_length != total(lengths, rows) || array_length != rows * columns)
-        return 5;
-    if (bad_points(degree, points, columns))
-        return 6;
-    if (outside(degree, message, message_length))
-        return 7;
     encode_rows(degree, lengths, rows, points, columns, message, array);
     return 256;
 }
@@ -219,15 +244,10 @@ static int row_polynomial(unsigned degree, unsigned k, const uint8_t *points, si
 uint32_t second_mark_read(uint32_t degree, const uint8_t *lengths, size_t rows, const uint8_t *points, size_t columns,
                           const uint8_t *array, size_t array_length, uint8_t *message, size_t message_length)
 {
-    unsigned k = code_check(degree, lengths, rows, columns);
+    int fit = message_length == total(lengths, rows) && array_length == rows * columns;
+    unsigned k = mark_check(degree, lengths, rows, points, columns, fit, array, array_length);
     if (k)
         return k;
-    if (message_length != total(lengths, rows) || array_length != rows * columns)
-        return 5;
-    if (bad_points(degree, points, columns))
-        return 6;
-    if (outside(degree, array, array_length))
-        return 7;
     uint8_t found[MOST] = {0};
     size_t from = 0;
     for (size_t l = 0; l < rows; l++) {
@@ -350,16 +370,10 @@ uint32_t second_mark_decode(uint32_t degree, const uint8_t *lengths, size_t rows
                             uint32_t limit, const uint8_t *received, size_t received_length, uint8_t *answer,
                             size_t answer_length, uint8_t *flags, size_t flags_length, uint8_t *space, size_t space_length)
 {
-    unsigned k = code_check(degree, lengths, rows, columns);
+    int fit = decoding_fits(rows * columns, columns, received_length, answer_length, flags_length, space_length);
+    unsigned k = mark_check(degree, lengths, rows, points, columns, fit, received, received_length);
     if (k)
         return k;
-    if (received_length != rows * columns || answer_length != rows * columns || flags_length != columns
-        || space_length < SECOND_SPACE)
-        return 5;
-    if (bad_points(degree, points, columns))
-        return 6;
-    if (outside(degree, received, received_length))
-        return 7;
     if (limit > second_joint_limit(lengths, rows, columns))
         return 8;
     memset(space, 0, SECOND_SPACE);
@@ -414,16 +428,10 @@ uint32_t second_mark_decode_lost(uint32_t degree, const uint8_t *lengths, size_t
                                  size_t flags_length, uint8_t *space, size_t space_length)
 {
     uint8_t which[96];
-    unsigned k = code_check(degree, lengths, rows, columns);
+    int fit = decoding_fits(rows * columns, columns, received_length, answer_length, flags_length, space_length);
+    unsigned k = mark_check(degree, lengths, rows, points, columns, fit, received, received_length);
     if (k)
         return k;
-    if (received_length != rows * columns || answer_length != rows * columns || flags_length != columns
-        || space_length < SECOND_SPACE)
-        return 5;
-    if (bad_points(degree, points, columns))
-        return 6;
-    if (outside(degree, received, received_length))
-        return 7;
     k = lost_check(lengths, rows, columns, lost, lost_count, which);
     if (k)
         return k;
@@ -461,27 +469,43 @@ void second_ring_lengths(unsigned q, unsigned m, uint8_t *lengths)
         lengths[j] = (uint8_t)((m - j * (q + 1)) / q + 1);
 }
 
-static unsigned ring_check(uint32_t q, uint32_t m)
+/* Checks 10 and 11; the message lengths are then written. */
+static unsigned order_check(uint32_t q, uint32_t m, uint8_t *lengths)
 {
     if (q != 2 && q != 4)
         return 10;
     if (m < q * q - 1 || m > q * q * q - 1)
         return 11;
+    second_ring_lengths(q, m, lengths);
     return 0;
+}
+
+/* Checks 10, 11, 5 and 7 of encoding and reading, of which `symbols` is the input. */
+static unsigned ring_check(uint32_t q, uint32_t m, uint8_t *lengths, size_t message_length, size_t word_length,
+                           const uint8_t *symbols, size_t count)
+{
+    unsigned k = order_check(q, m, lengths);
+    if (k)
+        return k;
+    return message_length != total(lengths, q) || word_length != q * q * q ? 5 : outside(q, symbols, count) ? 7 : 0;
+}
+
+/* The same of decoding, where `fit` says whether the buffers' lengths are right. */
+static unsigned ring_decoding_check(uint32_t q, uint32_t m, uint8_t *lengths, int fit, const uint8_t *received, size_t count)
+{
+    unsigned k = order_check(q, m, lengths);
+    if (k)
+        return k;
+    return !fit ? 5 : outside(q, received, count) ? 7 : 0;
 }
 
 uint32_t second_ring_encode(uint32_t q, uint32_t m, const uint8_t *message, size_t message_length, uint8_t *word,
                             size_t word_length)
 {
     uint8_t lengths[4], xs[64], ys[64];
-    unsigned k = ring_check(q, m);
+    unsigned k = ring_check(q, m, lengths, message_length, word_length, message, message_length);
     if (k)
         return k;
-    second_ring_lengths(q, m, lengths);
-    if (message_length != total(lengths, q) || word_length != q * q * q)
-        return 5;
-    if (outside(q, message, message_length))
-        return 7;
     ring_points(q, xs, ys);
     for (size_t i = 0; i < q * q * q; i++) {
         const uint8_t *f = message;
@@ -495,12 +519,13 @@ uint32_t second_ring_encode(uint32_t q, uint32_t m, const uint8_t *message, size
     return 256;
 }
 
-/* The array of a ring: in each sector the polynomial in y of q coefficients that has the sector's values. */
-static void ring_array(unsigned q, const uint8_t *ring, uint8_t *array)
+/* The array of a ring and its points: in each sector the polynomial in y of q coefficients that has the sector's values. */
+static void ring_array(unsigned q, const uint8_t *ring, uint8_t *points, uint8_t *array)
 {
     uint8_t xs[64], ys[64], p[4];
     ring_points(q, xs, ys);
     for (unsigned x = 0; x < q * q; x++) {
+        points[x] = (uint8_t)x;
         row_polynomial(q, q, ys + x * q, q, ring + x * q, p);
         for (unsigned j = 0; j < q; j++)
             array[j * q * q + x] = p[j];
@@ -522,17 +547,10 @@ static void array_ring(unsigned q, const uint8_t *array, uint8_t *ring)
 uint32_t second_ring_read(uint32_t q, uint32_t m, const uint8_t *word, size_t word_length, uint8_t *message, size_t message_length)
 {
     uint8_t lengths[4], points[16], array[64], found[64];
-    unsigned k = ring_check(q, m);
+    unsigned k = ring_check(q, m, lengths, message_length, word_length, word, word_length);
     if (k)
         return k;
-    second_ring_lengths(q, m, lengths);
-    if (message_length != total(lengths, q) || word_length != q * q * q)
-        return 5;
-    if (outside(q, word, word_length))
-        return 7;
-    for (unsigned x = 0; x < q * q; x++)
-        points[x] = (uint8_t)x;
-    ring_array(q, word, array);
+    ring_array(q, word, points, array);
     uint32_t read = second_mark_read(q, lengths, q, points, q * q, array, q * q * q, found, message_length);
     if (read != 256)
         return read;
@@ -545,20 +563,14 @@ uint32_t second_ring_decode(uint32_t q, uint32_t m, uint32_t limit, const uint8_
                             size_t space_length)
 {
     uint8_t lengths[4], points[16], array[64], rebuilt[64];
-    unsigned k = ring_check(q, m);
+    int fit = decoding_fits(q * q * q, q * q, received_length, answer_length, flags_length, space_length);
+    unsigned k = ring_decoding_check(q, m, lengths, fit, received, received_length);
     if (k)
         return k;
-    second_ring_lengths(q, m, lengths);
-    if (received_length != q * q * q || answer_length != q * q * q || flags_length != q * q || space_length < SECOND_SPACE)
-        return 5;
-    if (outside(q, received, received_length))
-        return 7;
     if (limit > second_joint_limit(lengths, q, q * q))
         return 8;
-    for (unsigned x = 0; x < q * q; x++)
-        points[x] = (uint8_t)x;
     memset(space, 0, SECOND_SPACE);
-    ring_array(q, received, array);
+    ring_array(q, received, points, array);
     uint32_t ending = endings(q, lengths, q, points, q * q, limit, array, rebuilt, flags);
     if (ending / 256 == 1)
         array_ring(q, rebuilt, answer);
@@ -570,23 +582,17 @@ uint32_t second_ring_decode_lost(uint32_t q, uint32_t m, uint32_t limit, const u
                                  uint8_t *flags, size_t flags_length, uint8_t *space, size_t space_length)
 {
     uint8_t lengths[4], points[16], which[16], array[64], rebuilt[64];
-    unsigned k = ring_check(q, m);
+    int fit = decoding_fits(q * q * q, q * q, received_length, answer_length, flags_length, space_length);
+    unsigned k = ring_decoding_check(q, m, lengths, fit, received, received_length);
     if (k)
         return k;
-    second_ring_lengths(q, m, lengths);
-    if (received_length != q * q * q || answer_length != q * q * q || flags_length != q * q || space_length < SECOND_SPACE)
-        return 5;
-    if (outside(q, received, received_length))
-        return 7;
     k = lost_check(lengths, q, q * q, lost, lost_count, which);
     if (k)
         return k;
     if (limit > second_joint_limit(lengths, q, q * q - lost_count))
         return 8;
-    for (unsigned x = 0; x < q * q; x++)
-        points[x] = (uint8_t)x;
     memset(space, 0, SECOND_SPACE);
-    ring_array(q, received, array);
+    ring_array(q, received, points, array);
     uint32_t ending = endings_lost(q, lengths, q, points, q * q, limit, which, array, rebuilt, flags);
     if (ending / 256 == 1)
         array_ring(q, rebuilt, answer);

@@ -1,5 +1,12 @@
--- What the solver's last lines say of the locators of the rows.
+-- The start of the solver, and what its last lines say of the locators of the rows and of the least size of one.
 --
+--   places n j     unit vectors at n places from j on
+--   start-basis    at r + 1 places from 0 on they are a basis of all vectors
+--   start-lines    the lines of the start are theirs
+--   stride rows    one more than there are rows
+--   forms rows     the conditions of the rows, on vectors
+--   solutions      the space of the vectors of symbols on which all of them are zero
+--   Small t v      v has no nonzero place above t strides: its E has t + 1 coefficients at most, each N at most t
 --   behind             the vectors behind the lines
 --   AllMultiples rows t E   every locator of size t is a multiple of E
 --   Alone rows t es g  g is the lowest of the lines es, and of the leads that size t allows its is the only one
@@ -7,31 +14,170 @@
 --   lines-locate       each line of low lead is a locator; in plain rows, not a zero one (lines-nonzero)
 --   all-multiples      where one lead alone is low, every locator is a multiple of that line's
 --   not-multiples      of two lines of different low leads, neither locator is a multiple of the other
-use mathlib.Core.Path.{_≡_, refl, sym, _∙_, ap, ap₂}
+--   solve-length   there is a line more than there are rows
+--   least-found    some line has the lowest lead
+--   least-size     its size is the least, and its locator is one of that size
+--   one-locator    where no other lead is as low as that size allows, every locator is a multiple of it
+--   two-locators   where another is, that line's locator and this one are no multiples of each other
+-- Assumes nothing.
+use mathlib.Core.Path.{_≡_, refl, sym, ap, ap₂, _∙_}
 use mathlib.Core.List.{List, [], _∷_, map}
-use Prim.Native.Nat.{ℕ, suc, _+_, _*_, _≤_, _<_}
-use native.Mathlib.Nat.{zero-lt-suc}
+use mathlib.Core.Logic.{_⊎_, inl, inr}
+use mathlib.Core.Option.{Option, none, some}
+use Prim.Native.Nat.{ℕ, zero, suc, _+_, _*_, _/_, _%_, _≤_, _<_}
+use native.Mathlib.Nat.{zero-add, add-zero, eq-or-lt-of-le, mod-lt, zero-lt-suc, div-add-mod', suc-mul, mul-le-mul-right}
 use native.Mathlib.Omega.{arith}
-use lib.ListN.{length}
+use native.Mathlib.Decide.{ℕ-discrete}
+use lib.ListN.{length, length-map}
 use Rattle.field.specs.Arithmetic.{Arithmetic}
 use Rattle.field.proofs.Laws.{Field}
-use Rattle.poly.specs.Poly.{All, Zero, scale}
-use Rattle.basis.proofs.Mix.{mix}
-use Rattle.basis.proofs.Lines.{Row, Condition, Line, conditions, solve, cut, locatorOf}
-use Rattle.basis.proofs.Lines
-use Rattle.basis.proofs.Lists.{all-map, all-of-map}
-use Rattle.basis.proofs.Vector.{at-zero, zero-at, below-mix}
-use Rattle.basis.proofs.Basis.{Form, Entry, Led, Basis}
-use Rattle.basis.proofs.Step.{run-basis}
-use Rattle.basis.proofs.Step
-use Rattle.basis.proofs.Least.{no-lower, multiples, not-multiple}
-use Rattle.basis.proofs.Table.{line, run-lines}
-use Rattle.basis.proofs.Interleaved.{every, every-mix, every-zero, part-every}
-use Rattle.basis.proofs.Conditions.{form, vectors, conditions-values}
-use Rattle.basis.proofs.Start.{places, start-basis, start-lines}
-use Rattle.basis.proofs.Cut.{at-cut, multiple-cut, zero-of-cut}
-use Rattle.basis.proofs.Solutions.{stride, forms, forms-lawful, solutions, of-solution, Small, low-small, first-below, stands-within, locates, no-locator}
-use Rattle.basis.proofs.Locates.{Locates, Plain, vector-of}
+use Rattle.poly.specs.Poly.{All, value, Zero, scale}
+use Rattle.basis.proofs.Lines.{Condition, Line, unit, start, startRows, line, line-path, Row, conditions, cut, solve, locatorOf, run-lines, at-cut, multiple-cut, zero-of-cut, step-by, step, run, least, another, size}
+use Rattle.poly.proofs.Ring.{ring}
+use Rattle.basis.proofs.Scan.{Any, all-weaken, all-each, all-map, all-of-map, IfFound, NoBetter, lowest-passed, none-found, found-lowest, found}
+use Rattle.basis.proofs.Vector.{at, Lead, shift, shift-in, lead-shift, Below, mix, at-zero, zero-at, below-mix}
+use Rattle.basis.proofs.Basis.{Form, Entry, Reaches, Led, Basis, Space, Lawful, kernels, to-kernels, of-kernels, run-basis, no-lower, multiples, not-multiple}
+use Rattle.basis.proofs.Interleaved.{every, form, vectors, every-first-below, form-lawful, conditions-below, Locates, Plain, Met, StandsFor, locator-of, plain-zero, every-mix, every-zero, part-every, conditions-values, vector-of}
+use Rattle.basis.proofs.Basis as steps
+
+-- ---- The start of the solver: unit vectors, and the lines of the table that stand for them.
+
+module _ {K : Type 0} (A : Arithmetic K) where
+  unfoldable pub places : ℕ → ℕ → List (Entry K)
+  places zero j = []
+  places (suc n) j = record { vec = shift A j (A .one ∷ []); lead = j } ∷ places n (suc j)
+
+module _ {K : Type 0} (A : Arithmetic K) (𝓕 : Field A) where
+  one-lead : Lead A (A .one ∷ []) 0
+  one-lead = record { nonzero = 𝓕 .one-zero; below = above }
+    where
+      above : (i : ℕ) → 1 ≤ i → at A (A .one ∷ []) i ≡ A .zero
+      above zero le = absurd (omega arith)
+      above (suc i) le = refl
+
+  places-led : (s n j : ℕ) → All (Led (vectors A 𝓕 s)) (places A n j)
+  unfolding places
+  places-led s zero j = tt
+  places-led s (suc n) j =
+      (record { within = shift-in A 𝓕 j (A .one ∷ []) (𝓕 .one-in, tt); leads = rw add-zero at (lead-shift A 𝓕 j one-lead) }, places-led s n (suc j))
+
+  places-reach : (s n j k c m : ℕ) → j ≤ c → c < j + n → m ≡ k * s + c → Any (Reaches s m) (places A n j)
+  unfolding places
+  places-reach s zero j k c m lo hi e = absurd (omega arith)
+  places-reach s (suc n) j k c m lo hi e = go (eq-or-lt-of-le lo) (λ lt. places-reach s n (suc j) k c m lt (omega arith) e)
+    where
+      go : (j ≡ c) ⊎ (j < c) → (j < c → Any (Reaches s m) (places A n (suc j))) → Any (Reaches s m) (places A (suc n) j)
+      go (inl same) rest = inl (k, omega arith)
+      go (inr lt) rest = inr (rest lt)
+
+  pub start-basis : (r : ℕ) → Basis (vectors A 𝓕 (suc r)) (places A (suc r) 0)
+  start-basis r =
+      record {
+        led = places-led (suc r) (suc r) 0;
+        reached =
+            λ v m _ _. places-reach (suc r) (suc r) 0 (m / suc r) (m % suc r) m (omega arith) (rw zero-add (mod-lt m (zero-lt-suc r)))
+            (sym (div-add-mod' m (suc r)));
+      }
+
+  -- the lines of the start
+
+  every-gap : (r j k : ℕ) → j < k → every r k (shift A j (A .one ∷ [])) ≡ []
+  unfolding every shift
+  every-gap r j zero lt = absurd (omega arith)
+  every-gap r zero (suc k) lt = refl
+  every-gap r (suc j) (suc k) lt = every-gap r j k (omega arith)
+
+  value-unit : (r i j : ℕ) (x : K) → j ≤ r → value A (every r i (shift A j (A .one ∷ []))) x ≡ unit A i j
+  unfolding every shift unit value
+  value-unit r zero zero x le = simp ring
+  value-unit r zero (suc j) x le = rw (every-gap r j r le) (simp ring)
+  value-unit r (suc i) zero x le = refl
+  value-unit r (suc i) (suc j) x le = value-unit r i j x (omega arith)
+
+  values-agree : (r : ℕ) (v : List K) (f : Condition K → K) (cs : List (Condition K)) → All (λ (c : Condition K). form A r c .of v ≡ f c) cs
+      → map (λ (C : Form K). C .of v) (map (form A r) cs) ≡ map f cs
+  values-agree r v f [] h = refl
+  values-agree r v f (c ∷ cs) h = cc (h .0, values-agree r v f cs (h .1))
+
+  form-one : (r : ℕ) (c : Condition K) → A .In (c .value) → form A r c .of (A .one ∷ []) ≡ c .value
+  unfolding form every value
+  form-one r c h = simp ring (𝓕 .one-times (c .value) h)
+
+  form-unit : (r j : ℕ) (c : Condition K) → j < r → form A r c .of (shift A (suc j) (A .one ∷ [])) ≡ unit A (c .row) j
+  unfolding form every value shift
+  form-unit r j c lt = rw (value-unit r (c .row) j (c .point) (omega arith), every-gap r j r lt) (simp ring)
+
+  every-unit : (r j : ℕ) → j < r → every r 0 (shift A (suc j) (A .one ∷ [])) ≡ A .zero ∷ []
+  unfolding every shift
+  every-unit r j lt = ap (λ (p : List K). A .zero ∷ p) (every-gap r j r lt)
+
+  start-rows : (r n j : ℕ) (cs : List (Condition K)) → j + n ≤ r
+      → map (line (every r 0) (map (form A r) cs)) (places A n (suc j)) ≡ startRows A n j cs
+  unfolding places startRows
+  start-rows r zero j cs le = refl
+  start-rows r (suc n) j cs le =
+      let values = values-agree r (shift A (suc j) (A .one ∷ [])) (λ (c : Condition K). unit A (c .row) j) cs (all-each _ (λ c. form-unit r j c (omega arith)) cs) in
+      ap₂ (λ (e : Line K) (es : List (Line K)). e ∷ es) (line-path (suc j) (every-unit r j (omega arith)) values) (start-rows r n (suc j) cs (omega arith))
+
+  pub start-lines : (r : ℕ) (cs : List (Condition K)) → All (λ (c : Condition K). A .In (c .value)) cs
+      → map (line (every r 0) (map (form A r) cs)) (places A (suc r) 0) ≡ start A r cs
+  unfolding places start shift every
+  start-lines r cs h =
+      let values = values-agree r (A .one ∷ []) (λ (c : Condition K). c .value) cs (all-weaken _ _ (form-one r) cs h) in
+      ap₂ (λ (e : Line K) (es : List (Line K)). e ∷ es) (line-path 0 refl values) (start-rows r r 0 cs (omega arith))
+
+-- ---- The solutions of the rows' conditions, as a space of vectors, and the locators that the small ones among them are.
+
+abbrev pub stride : {K : Type 0} → List (Row K) → ℕ
+stride rows = suc (length rows)
+
+module _ {K : Type 0} (A : Arithmetic K) (rows : List (Row K)) where
+  abbrev pub forms : List (Form K)
+  forms = map (form A (length rows)) (conditions 0 rows)
+
+module _ {K : Type 0} (A : Arithmetic K) (𝓕 : Field A) (rows : List (Row K)) where
+  pub forms-lawful : All (Lawful (vectors A 𝓕 (stride rows))) (forms A rows)
+  forms-lawful =
+      all-map _ _ (form A (length rows)) (form-lawful A 𝓕 (length rows)) (conditions 0 rows) (conditions-below (length rows) 0 rows (omega arith))
+
+  abbrev pub solutions : Space A (stride rows)
+  solutions = kernels A 𝓕 (vectors A 𝓕 (stride rows)) (forms A rows) forms-lawful
+
+  pub of-solution : (v : List K) → solutions .has v → All (A .In) v × Met A (length rows) 0 rows v
+  of-solution v h =
+      let (symbols, zeros) = of-kernels A 𝓕 (vectors A 𝓕 (stride rows)) (forms A rows) forms-lawful v h in
+      (symbols, all-of-map _ (form A (length rows)) (conditions 0 rows) zeros)
+
+  -- vectors of a size, as locators
+
+  module _ (t : ℕ) where
+    -- places up to the size
+    abbrev pub Small : List K → Type 0
+    Small v = Below A v (suc (t * stride rows))
+
+    pub low-small : (e : Entry K) → Led solutions e → e .lead ≤ t * stride rows → Small (e .vec)
+    low-small e led le i b = led .leads .below i (omega arith)
+
+    pub first-below : (v : List K) → Small v → Below A (every (length rows) 0 v) (suc t)
+    first-below v b = every-first-below A 𝓕 (length rows) t v b
+
+    pub stands-within : (E v : List K) → StandsFor A t rows E v → solutions .has v
+    stands-within E v h =
+        to-kernels A 𝓕 (vectors A 𝓕 (stride rows)) (forms A rows) forms-lawful v (h .symbols)
+        (all-map _ _ (form A (length rows)) (λ c z. z) (conditions 0 rows) (h .met))
+
+    pub locates : (v : List K) → solutions .has v → Small v → Locates A t rows (cut A (suc t) (every (length rows) 0 v))
+    locates v h b =
+        let (symbols, met) = of-solution v h in
+        locator-of A 𝓕 (length rows) t v symbols b rows met
+
+    -- in plain rows, a solution with no E is zero
+    pub no-locator : Plain A t rows → (v : List K) → solutions .has v → Small v → Zero A (every (length rows) 0 v) → Zero A v
+    no-locator plain v h b z =
+        let (symbols, met) = of-solution v h in
+        plain-zero A 𝓕 (length rows) t v symbols b z rows refl plain met
+
+-- ---- What the solver's last lines say of the locators of the rows.
 
 module _ {K : Type 0} (A : Arithmetic K) (rows : List (Row K)) (t : ℕ) where
   -- every locator of size t is a multiple of E
@@ -50,7 +196,7 @@ pub record Alone {K : Type 0} (rows : List (Row K)) (t : ℕ) (es : List (Line K
 
 module _ {K : Type 0} (A : Arithmetic K) (rows : List (Row K)) where
   abbrev behind : Discrete K → List (Entry K)
-  behind same = Step.run A same (stride rows) (forms A rows) (places A (stride rows) 0)
+  behind same = steps.run A same (stride rows) (forms A rows) (places A (stride rows) 0)
 
   abbrev lineOf : Entry K → Line K
   lineOf e = line (every (length rows) 0) [] e
@@ -72,7 +218,7 @@ module _ {K : Type 0} (A : Arithmetic K) (𝓕 : Field A) (same : Discrete K) (r
     solve-lines =
         let r : ℕ = length rows in
         let cs : List (Condition K) = conditions 0 rows in
-        ap₂ (Lines.run A same (suc r)) (sym (form-points r cs)) (sym (start-lines A 𝓕 r cs (conditions-values (A .In) 0 rows symbols)))
+        ap₂ (run A same (suc r)) (sym (form-points r cs)) (sym (start-lines A 𝓕 r cs (conditions-values (A .In) 0 rows symbols)))
         ∙ run-lines A 𝓕 same (every r 0) (part-every A 𝓕 r 0 (omega arith))
         (zero-lt-suc r) (vectors A 𝓕 (suc r)) (forms A rows) (forms-lawful A 𝓕 rows) (places A (suc r) 0) (start-basis A 𝓕 r)
 
@@ -142,3 +288,132 @@ module _ {K : Type 0} (A : Arithmetic K) (𝓕 : Field A) (same : Discrete K) (r
               rw every-mix (zero-of-cut A 𝓕 (suc t) c _ _ (first-below A 𝓕 rows t v sv) (first-below A 𝓕 rows t w sw) eq) in
               let zero : Zero A u = no-locator A 𝓕 rows t plain u su (below-mix A 𝓕 c v w _ sv sw) none in
               not-multiple A 𝓕 v w (e .lead) (f .lead) (of-solution A 𝓕 rows w (lf .within) .0) (le .leads) (lf .leads) other c zero
+
+-- ---- The least size at which the rows have a locator, read off the lines: their lowest lead, and the next.
+
+-- sizes
+
+pub size-high : (r m : ℕ) → m ≤ size r m * suc r
+unfolding size
+size-high r m = omega (arith, div-add-mod' (m + r) (suc r), mod-lt (m + r) (zero-lt-suc r))
+
+pub size-near : (r m : ℕ) → size r m * suc r < m + suc r
+unfolding size
+size-near r m = omega (arith, div-add-mod' (m + r) (suc r), mod-lt (m + r) (zero-lt-suc r))
+
+pub size-least : (r m t : ℕ) → t < size r m → t * suc r < m
+size-least r m t lt = omega (arith, size-near r m, mul-le-mul-right (suc r) lt, suc-mul t (suc r))
+
+not-above : (l m : ℕ) → (l < m → ⊥) → m ≤ l
+not-above l m h = omega arith
+
+another-passed : {K : Type 0} (m : ℕ) (es : List (Line K)) → All (NoBetter (λ (e : Line K). e .lead) (λ (e : Line K). e .lead ≡ m) (another m es)) es
+unfolding another
+another-passed m es = lowest-passed _ _ (λ e. ℕ-discrete (e .lead) m) es none
+
+-- the number of lines
+
+module _ {K : Type 0} (A : Arithmetic K) where
+  rows-length : (n j : ℕ) (cs : List (Condition K)) → length (startRows A n j cs) ≡ n
+  unfolding startRows
+  rows-length zero j cs = refl
+  rows-length (suc n) j cs = ap suc (rows-length n (suc j) cs)
+
+  module _ (same : Discrete K) (s : ℕ) where
+    step-by-length : (x : K) (xs : List K) (es : List (Line K)) (o : Option (Line K)) → length (step-by A same s x xs es o) ≡ length es
+    unfolding step-by
+    step-by-length x xs es none = length-map es _
+    step-by-length x xs es (some p) = length-map es _
+
+    run-length : (xs : List K) (es : List (Line K)) → length (run A same s xs es) ≡ length es
+    unfolding run step
+    run-length [] es = refl
+    run-length (x ∷ xs) es = run-length xs (step A same s x xs es) ∙ step-by-length x xs es _
+
+  pub solve-length : (same : Discrete K) (rows : List (Row K)) → length (solve A same rows) ≡ suc (length rows)
+  unfolding solve start
+  solve-length same rows = run-length same _ _ _ ∙ ap suc (rows-length (length rows) 0 (conditions 0 rows))
+
+-- the least size
+
+-- E is a locator of size t, and no smaller size has one; in plain rows it is not zero
+pub record LeastLocator {K : Type 0} (A : Arithmetic K) (rows : List (Row K)) (t : ℕ) (E : List K) : Type 0 where
+  pub below : (t′ : ℕ) → t′ < t → (E′ : List K) → Locates A t′ rows E′ → Zero A E′
+  pub locates : Locates A t rows E
+  pub nonzero : Plain A t rows → Zero A E → ⊥
+
+-- E′ is another locator of size t, and neither is a multiple of the other
+pub record Several {K : Type 0} (A : Arithmetic K) (rows : List (Row K)) (t : ℕ) (E E′ : List K) : Type 0 where
+  pub locates : Locates A t rows E′
+  pub nonzero : Zero A E′ → ⊥
+  pub not-of-first : (c : K) → E′ ≡ scale A c E → ⊥
+  pub not-of-second : (c : K) → E ≡ scale A c E′ → ⊥
+
+module _ {K : Type 0} (A : Arithmetic K) (𝓕 : Field A) (same : Discrete K) (rows : List (Row K))
+    (symbols : All (λ (row : Row K). All (λ (c : K × K). A .In (c .1)) row) rows)
+  where
+    pub least-found : least (solve A same rows) ≡ none → ⊥
+    unfolding least
+    least-found e = go (solve A same rows) (solve-length A same rows) (none-found _ _ _ (solve A same rows) e)
+      where
+        go : (es : List (Line K)) → length es ≡ suc (length rows) → All (λ (e : Line K). ⊥) es → ⊥
+        go [] l h = omega arith
+        go (e ∷ es) l h = h .0
+
+    module _ (g : Line K) (first : least (solve A same rows) ≡ some g) where
+      of-least : (Q : Line K → Type 0) → All Q (solve A same rows) → Q g
+      unfolding least
+      of-least Q h = found _ _ _ (solve A same rows) Q h g first .0
+
+      least-lowest : All (λ (e : Line K). g .lead ≤ e .lead) (solve A same rows)
+      unfolding least
+      least-lowest =
+          all-weaken _ _ (λ e h. not-above (e .lead) (g .lead) h) (solve A same rows) (found-lowest _ _ _ (solve A same rows) g first)
+
+      module _ (t : ℕ) (fits : t ≡ size (length rows) (g .lead)) where
+        low : g .lead ≤ t * stride rows
+        low = rw fits (size-high (length rows) (g .lead))
+
+        pub least-size : LeastLocator A rows t (locatorOf A t g)
+        least-size =
+            record {
+              below =
+                  λ t′ lt. none-below A 𝓕 same rows symbols t′ (all-weaken _ _ (λ e h. above t′ lt (e .lead) h) (solve A same rows) least-lowest);
+              locates = of-least _ (lines-locate A 𝓕 same rows symbols t) low;
+              nonzero = λ plain. of-least _ (lines-nonzero A 𝓕 same rows symbols t plain) low;
+            }
+          where
+            above : (t′ : ℕ) → t′ < t → (l : ℕ) → g .lead ≤ l → t′ * stride rows < l
+            above t′ lt l h = omega (arith, size-least (length rows) (g .lead) t′ (rw fits at lt))
+
+        pub one-locator : IfFound (λ (q : Line K). t * stride rows < q .lead) (another (g .lead) (solve A same rows))
+            → AllMultiples A rows t (locatorOf A t g)
+        one-locator beyond =
+            of-least _ (all-multiples A 𝓕 same rows symbols t)
+            (record { lowest = least-lowest; near = rw fits (size-near (length rows) (g .lead)); alone = alone })
+          where
+            only : (o : Option (Line K)) → IfFound (λ (q : Line K). t * stride rows < q .lead) o → (e : Line K)
+                → NoBetter (λ (e : Line K). e .lead) (λ (e : Line K). e .lead ≡ g .lead) o e → e .lead ≤ t * stride rows → e .lead ≡ g .lead
+            only none h e p le = p
+            only (some q) h e p le = p (omega arith)
+
+            alone : All (λ (e : Line K). e .lead ≤ t * stride rows → e .lead ≡ g .lead) (solve A same rows)
+            alone =
+                let o : Option (Line K) = another (g .lead) (solve A same rows) in
+                all-weaken _ _ (only o beyond) (solve A same rows) (another-passed (g .lead) (solve A same rows))
+
+        module _ (q : Line K) (next : another (g .lead) (solve A same rows) ≡ some q) (within : q .lead ≤ t * stride rows) where
+          of-another : (Q : Line K → Type 0) → All Q (solve A same rows) → Q q × (q .lead ≡ g .lead → ⊥)
+          unfolding another
+          of-another Q h = found _ _ _ (solve A same rows) Q h q next
+
+          pub two-locators : Plain A t rows → Several A rows t (locatorOf A t g) (locatorOf A t q)
+          two-locators plain =
+              let (locates, other) = of-another _ (lines-locate A 𝓕 same rows symbols t) in
+              let all = not-multiples A 𝓕 same rows symbols t plain in
+              record {
+                locates = locates within;
+                nonzero = of-another _ (lines-nonzero A 𝓕 same rows symbols t plain) .0 within;
+                not-of-first = of-least _ (of-another _ all .0) within low other;
+                not-of-second = of-another _ (of-least _ all) .0 low within (λ e. other (sym e));
+              }

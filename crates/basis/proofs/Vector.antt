@@ -1,5 +1,8 @@
 -- Vectors of symbols as lists, read by place, and the highest nonzero place of each.
 --
+--   mix c p q    p plus c times q, as long as the longer of the two
+--   times-gone                where c·b = 0 and b ≠ 0, c·y = 0 for every symbol y
+--   value-mix, value-shift    values of p + c·q and of x·p
 --   at v i         the symbol at place i, zero beyond the end
 --   Below v n      no place from n on is nonzero
 --   Lead v p       place p is the highest nonzero one
@@ -7,8 +10,9 @@
 --   up s k v       v times x^k, at stride s
 --   take-off       some multiple of a vector takes the lead off another with that lead
 --   Two vectors are equal up to trailing zeros where their sum is Zero.
-use mathlib.Core.Path.{_≡_, refl, sym, _∙_, ap, ap₂}
-use mathlib.Core.List.{List, [], _∷_}
+-- Assumes nothing.
+use mathlib.Core.List.{List, _∷_, []}
+use mathlib.Core.Path.{_≡_, _∙_, ap, refl, sym, ap₂}
 use mathlib.Core.Logic.{_⊎_, inl, inr}
 use Prim.Native.Nat.{ℕ, zero, suc, _+_, _*_, _≤_, _<_}
 use native.Mathlib.Nat.{zero-add, suc-add, zero-mul, suc-mul, eq-or-lt-of-le}
@@ -16,10 +20,33 @@ use native.Mathlib.Decide.{decLt}
 use native.Mathlib.Omega.{arith}
 use lib.ListN.{getD}
 use Rattle.field.specs.Arithmetic.{Arithmetic}
+use Rattle.poly.specs.Poly.{add, scale, value, All, Zero}
 use Rattle.field.proofs.Laws.{Field}
-use Rattle.poly.specs.Poly.{All, Zero, add, scale}
-use Rattle.basis.proofs.Mix.{mix}
-use Rattle.poly.proofs.Ring.{ring}
+use Rattle.poly.proofs.Ring.{zero-plus, times-zero, times-left-comm, ring}
+use Rattle.poly.proofs.Values.{value-add, value-scale}
+
+-- ---- The one operation on lists of symbols that the solver needs.
+
+module _ {K : Type 0} (A : Arithmetic K) where
+  unfoldable pub mix : K → List K → List K → List K
+  mix c p q = add A p (scale A c q)
+
+-- ---- What follows of p + c·q: its values, and what a product that is zero makes of c.
+
+module _ {K : Type 0} (A : Arithmetic K) (𝓕 : Field A) where
+  pub times-gone : (b c y : K) → A .In b → (b ≡ A .zero → ⊥) → A .times c b ≡ A .zero → A .In y → A .times c y ≡ A .zero
+  times-gone b c y hb b≠0 h hy =
+      cc (𝓕 .over-times y b hy hb b≠0, times-left-comm A 𝓕 c (A .over y b) b, h, times-zero A 𝓕 (A .over y b))
+
+  pub value-mix : (c : K) (p q : List K) (x : K) → value A (mix A c p q) x ≡ A .plus (value A p x) (A .times c (value A q x))
+  unfolding mix
+  value-mix c p q x = value-add A 𝓕 p (scale A c q) x ∙ ap (A .plus (value A p x)) (value-scale A 𝓕 c q x)
+
+  pub value-shift : (p : List K) (x : K) → value A (A .zero ∷ p) x ≡ A .times x (value A p x)
+  unfolding value
+  value-shift p x = zero-plus A 𝓕 (A .times x (value A p x))
+
+-- ---- Vectors of symbols as lists, read by place, and the highest nonzero place of each.
 
 module _ {K : Type 0} (A : Arithmetic K) where
   abbrev pub at : List K → ℕ → K

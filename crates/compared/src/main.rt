@@ -5,8 +5,8 @@
 //               a mark with lost columns
 //   1, 2        the degree, or q
 //   3, 4        the trial limit
-//   5           m
-//   6, 7        how many lengths there are, at most 7, and how many points, at most 97
+//   5, 6        a ring's m
+//   6, 7        of a mark, how many lengths there are, at most 7, and how many points, at most 97
 //   8, 9        how many symbols there are, at most 385
 //   10, 11      how long the result's buffer is, at most 385
 //   12, 13      how many flags are lent, at most 97, and how many bytes of working space, less 49,144
@@ -18,24 +18,54 @@
 //
 // The buffers are lent with 7 in the result, 9 in the flags and 1 in the working space. A call gives a line: its number, the result and
 // the flags in hexadecimal, and how many bytes of the working space are zero. What is written is held to the answers of another
-// program (tests/second).
+// program (tests/second). The first calls are 01's examples and every refusal, each named in tests/second/cases.txt.
 ghost use mathlib.Core.Path.{_≡_};
-ghost use Prim.Native.Nat.{_≤_};
+ghost use Prim.Native.Nat.{_+_, _<_, _≤_};
 ghost use lib.ListN.{length};
 use libc::STDIN_FILENO;
 use libc::STDOUT_FILENO;
 
 // A number of two bytes.
-fn number(low: u8, high: u8) -> u32 {
+fn two(low: u8, high: u8) -> u32 {
     low as u32 + high as u32 * 256
 }
 
+// The number of two bytes at a place.
+fn number(frame: &[u8], at: usize) -> u32
+    requires { ⌜ at + 1 < length (now frame) ⌝ }
+{
+    two(frame[at], frame[at + 1])
+}
+
 // A count, or the most that there is room for.
-fn count(n: u32, most: usize) -> usize
+fn least(n: u32, most: usize) -> usize
     ensures { λ r. ⌜ r ≤ most ⌝ }
 {
     let n = n as usize;
     if most < n { most } else { n }
+}
+
+// The count of one byte at a place.
+fn few(frame: &[u8], at: usize, most: usize) -> usize
+    requires { ⌜ at < length (now frame) ⌝ }
+    ensures { λ r. ⌜ r ≤ most ⌝ }
+{
+    least(two(frame[at], 0), most)
+}
+
+// The count of two bytes at a place.
+fn many(frame: &[u8], at: usize, most: usize) -> usize
+    requires { ⌜ at + 1 < length (now frame) ⌝ }
+    ensures { λ r. ⌜ r ≤ most ⌝ }
+{
+    least(number(frame, at), most)
+}
+
+// So many bytes from a place on.
+fn part(frame: &[u8], at: usize, count: usize) -> &[u8]
+    requires { ⌜ at + count ≤ length (now frame) ⌝ }
+{
+    &frame[at..at + count]
 }
 
 fn one_if_zero(x: u8) -> u64
@@ -63,13 +93,17 @@ fn show_symbols(s: &[u8]) {
     }
 }
 
+fn blank() {
+    io::write_all(STDOUT_FILENO, b" ");
+}
+
 fn show(answer: u32, result: &[u8], flags: &[u8], space: &[u8]) {
     io::print_decimal(STDOUT_FILENO, answer as u64);
-    io::write_all(STDOUT_FILENO, b" ");
+    blank();
     show_symbols(result);
-    io::write_all(STDOUT_FILENO, b" ");
+    blank();
     show_symbols(flags);
-    io::write_all(STDOUT_FILENO, b" ");
+    blank();
     io::print_decimal(STDOUT_FILENO, zeros(space));
     io::write_all(STDOUT_FILENO, b"\n");
 }
@@ -142,49 +176,37 @@ fn ring(
     firmware::gren_ring_decode_lost(q, m, limit, lost, input, result, flags, space)
 }
 
-// The call of a frame whose lost columns and symbols are these.
-fn called(
-    frame: &[u8],
-    lost: &[u8],
-    input: &[u8],
-    result: &mut [u8],
-    flags: &mut [u8],
-    space: &mut [u8],
-) -> u32
-    requires { ⌜ length (now frame) ≡ 512 ⌝ }
-{
-    let x = number(frame[1], frame[2]);
-    let limit = number(frame[3], frame[4]);
-    if 2 < frame[0] && frame[0] < 7 {
-        let m = number(frame[5], 0);
-        return ring(frame[0], x, m, limit, lost, input, result, flags, space);
-    }
-    let k = count(number(frame[6], 0), 7);
-    let n = count(number(frame[7], 0), 97);
-    mark(
-        frame[0],
-        x,
-        limit,
-        &frame[14..14 + k],
-        &frame[21..21 + n],
-        lost,
-        input,
-        result,
-        flags,
-        space,
-    )
-}
-
 // The call of a frame.
 fn made(frame: &[u8], result: &mut [u8], flags: &mut [u8], space: &mut [u8]) -> u32
     requires { ⌜ length (now frame) ≡ 512 ⌝ }
 {
-    let s = count(number(frame[8], frame[9]), 385);
-    let z = count(number(frame[503], 0), 8);
-    called(
-        frame,
-        &frame[504..504 + z],
-        &frame[118..118 + s],
+    let x = number(frame, 1);
+    let limit = number(frame, 3);
+    let input = part(frame, 118, many(frame, 8, 385));
+    let lost = part(frame, 504, few(frame, 503, 8));
+    if 2 < frame[0] && frame[0] < 7 {
+        return ring(
+            frame[0],
+            x,
+            number(frame, 5),
+            limit,
+            lost,
+            input,
+            result,
+            flags,
+            space,
+        );
+    }
+    let lengths = part(frame, 14, few(frame, 6, 7));
+    let points = part(frame, 21, few(frame, 7, 97));
+    mark(
+        frame[0],
+        x,
+        limit,
+        lengths,
+        points,
+        lost,
+        input,
         result,
         flags,
         space,
@@ -203,9 +225,9 @@ fn shown(frame: &[u8], result: &mut [u8], flags: &mut [u8], space: &mut [u8])
 fn lent(frame: &[u8], result: &mut [u8], flags: &mut [u8], space: &mut [u8])
     requires { ⌜ (length (now frame) ≡ 512) × (length (now result) ≡ 385) × (length (now flags) ≡ 97) × (length (now space) ≡ 49399) ⌝ }
 {
-    let a = count(number(frame[10], frame[11]), 385);
-    let f = count(number(frame[12], 0), 97);
-    let w = 49144 + count(number(frame[13], 0), 255);
+    let a = many(frame, 10, 385);
+    let f = few(frame, 12, 97);
+    let w = 49144 + few(frame, 13, 255);
     shown(frame, &mut result[..a], &mut flags[..f], &mut space[..w]);
 }
 

@@ -18,7 +18,7 @@ use lib.Seq.{drop-drop, ext-getD, length-take-le}
 use Rattle.patch.specs.Patch.{patch}
 use Rattle.patch.specs.Parts.{lay}
 use Rattle.patch.proofs.Laws.{length-patch, front-at}
-use Rattle.patch.proofs.Parts.{behind}
+use Rattle.patch.proofs.Parts.{lay-behind}
 use Rattle.field.specs.Symbols.{IsSymbol}
 use Rattle.field.specs.Arithmetic.{gf}
 use Rattle.field.proofs.Laws.{Field}
@@ -26,13 +26,13 @@ use Rattle.poly.specs.Poly.{All}
 use Rattle.poly.proofs.Forms.{reduce}
 use Rattle.poly.proofs.Differences.{length-left, symbols-left}
 use Rattle.refusal.proofs.Laws.{each-within}
-use Rattle.mark.specs.Code.{codeOf}
-use Rattle.mark.proofs.Parts.{all-take, all-drop, all-append, row-length, rest-length}
-use Rattle.mark.proofs.Proper.{Within, lengths-test}
-use Rattle.mark.proofs.Passed.{Counts}
-use Rattle.mark.proofs.Messages.{ReducedRows}
+use Rattle.codes.specs.Code.{codeOf}
+use Rattle.codes.proofs.Parts.{all-take, all-drop, all-append, row-length, rest-length}
+use Rattle.codes.proofs.Proper.{Within, lengths-test}
+use Rattle.codes.proofs.Passed.{Counts}
+use Rattle.codes.proofs.Messages.{ReducedRows}
 use Rattle.basis.proofs.Lines.{Row, Condition, condition, conditions}
-use Rattle.basis.proofs.Lists.{all-left, all-right}
+use Rattle.basis.proofs.Scan.{all-left, all-right}
 use Rattle.ending.proofs.Model.{reducedRows}
 use Rattle.conditions.specs.Working.{reducedPoints, reducedValues}
 use Rattle.conditions.proofs.Places.{RowAt, next, row-left, row-size}
@@ -75,7 +75,7 @@ module _ (xs : List ℕ) where
         → lay (at + (length xs - getD ks l 0)) (reducedPoints xs (drop (l + 1) ks)) s ≡ lay at (reducedPoints xs (drop l ks)) t
     points-more at t is fits =
         let e = points-next in
-        rw e (behind at (drop (getD ks l 0) xs) (reducedPoints xs (drop (l + 1) ks)) t (length-drop (getD ks l 0) xs) is
+        rw e (lay-behind at (drop (getD ks l 0) xs) (reducedPoints xs (drop (l + 1) ks)) t (length-drop (getD ks l 0) xs) is
         (omega (arith, ap length points-next)))
 
 -- n − k for each row, as the code writes them
@@ -132,7 +132,7 @@ module _ (d : ℕ) (𝓕 : Field (gf d)) (xs : List ℕ) where
       let count : length us ≡ n - k = length-left (gf d) 𝓕 k xs (take n (drop from y)) (row-size n ks p h y array) ∙ length-drop k xs in
       let room : at + length (us ++ rest) ≤ length t =
       omega (arith, ap length whole, length-values (drop l ks) (drop from y) (row-left n ks p y array)) in
-      rw (← drop-drop n from y, whole) (behind at us rest t count is room)
+      rw (← drop-drop n from y, whole) (lay-behind at us rest t count is room)
 
   -- what the solver is given
 

@@ -9,13 +9,13 @@ ghost use Rattle.patch.specs.Parts.{lay};
 ghost use Rattle.refusal.specs.Refusal.{badDegree};
 ghost use Rattle.field.specs.Symbols.{IsSymbol};
 ghost use Rattle.field.specs.Arithmetic.{gf};
-ghost use Rattle.field.specs.Tables.{IsTable};
+ghost use Rattle.field.specs.Working.Tables.{IsTable};
 ghost use Rattle.poly.specs.Poly.{All};
 ghost use Rattle.poly.proofs.Forms.{reduce};
-ghost use Rattle.rows.specs.Rows.{Points, Inverses};
-ghost use Rattle.mark.specs.Code.{IsArray, codeOf, largest};
-ghost use Rattle.mark.proofs.Passed.{Counts};
-ghost use Rattle.mark.proofs.Proper.{Proper, Within};
+ghost use Rattle.rows.specs.Working.Rows.{Points, Inverses};
+ghost use Rattle.codes.specs.Code.{codeOf, largest};
+ghost use Rattle.codes.proofs.Proper.{Within};
+ghost use Rattle.ending.specs.Working.{Ready, mostCells};
 ghost use Rattle.conditions.specs.Working.{reducedPoints, reducedValues};
 use field::tables::Table;
 use mark::checks;
@@ -71,9 +71,9 @@ fn rows_conditions(
     us: &mut [u8],
     xs: &mut [u8],
 ) -> usize
-    requires { ⌜ Counts (codeOf degree (now points) (now lengths)) × Proper (codeOf degree (now points) (now lengths)) ⌝ }
-    requires { ⌜ IsArray (codeOf degree (now points) (now lengths)) (now received) × IsTable degree (now table) ⌝ }
-    requires { ⌜ (length (now us) ≡ 384) × (length (now xs) ≡ 384) × Inverses degree (now points) (largest (now lengths)) (now ws) ⌝ }
+    requires { ⌜ Ready (codeOf degree (now points) (now lengths)) (now received) ⌝ }
+    requires { ⌜ IsTable degree (now table) ⌝ }
+    requires { ⌜ (length (now us) ≡ mostCells) × (length (now xs) ≡ mostCells) × Inverses degree (now points) (largest (now lengths)) (now ws) ⌝ }
     ensures { λ r. ⌜ (r ≡ length (reducedPoints (now (points .entry)) (now (lengths .entry))))
         × (now (us .exit) ≡ lay 0 (reducedValues degree (now (points .entry)) (now (lengths .entry)) (now (received .entry))) (now (us .entry)))
         × (now (xs .exit) ≡ lay 0 (reducedPoints (now (points .entry)) (now (lengths .entry))) (now (xs .entry))) ⌝ }
@@ -111,9 +111,9 @@ pub fn conditions(
     us: &mut [u8],
     xs: &mut [u8],
 ) -> usize
-    requires { ⌜ Counts (codeOf degree (now points) (now lengths)) × Proper (codeOf degree (now points) (now lengths)) ⌝ }
-    requires { ⌜ IsArray (codeOf degree (now points) (now lengths)) (now received) × IsTable degree (now table) ⌝ }
-    requires { ⌜ (length (now us) ≡ 384) × (length (now xs) ≡ 384) ⌝ }
+    requires { ⌜ Ready (codeOf degree (now points) (now lengths)) (now received) ⌝ }
+    requires { ⌜ IsTable degree (now table) ⌝ }
+    requires { ⌜ (length (now us) ≡ mostCells) × (length (now xs) ≡ mostCells) ⌝ }
     ensures { λ r. ⌜ (r ≡ length (reducedPoints (now (points .entry)) (now (lengths .entry))))
         × (now (us .exit) ≡ lay 0 (reducedValues degree (now (points .entry)) (now (lengths .entry)) (now (received .entry))) (now (us .entry)))
         × (now (xs .exit) ≡ lay 0 (reducedPoints (now (points .entry)) (now (lengths .entry))) (now (xs .entry))) ⌝ }

@@ -1,6 +1,6 @@
 pub mod Columns
+pub mod Verdicts
+pub mod Promised
 pub mod Sound
 pub mod Replaced
-pub mod Verdicts
 pub mod NoMisfit
-pub mod Promised

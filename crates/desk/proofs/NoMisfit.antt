@@ -12,11 +12,11 @@ use Rattle.field.specs.Symbols.{IsSymbol}
 use Rattle.field.specs.Arithmetic.{gf}
 use Rattle.poly.specs.Poly.{All}
 use Rattle.poly.proofs.OneOff.{row-exactly}
-use Rattle.mark.specs.Code.{Code, CodeArray}
-use Rattle.mark.proofs.Parts.{all-take, all-drop, row-length, rest-length}
-use Rattle.mark.proofs.Proper.{Within, Proper}
-use Rattle.mark.proofs.Messages.{ReducedRows, code-array-exactly}
-use Rattle.desk.specs.Desk.{codeOf, arrayOf, Made}
+use Rattle.codes.specs.Code.{Code, CodeArray}
+use Rattle.codes.proofs.Parts.{all-take, all-drop, row-length, rest-length}
+use Rattle.codes.proofs.Proper.{Within, Proper}
+use Rattle.codes.proofs.Messages.{ReducedRows, code-array-exactly}
+use Rattle.desk.specs.Desk.{deskCode, arrayOf, Made}
 use Rattle.desk.specs.Verdict.{IsRow, Misfits, none, fits, Verdict}
 use Rattle.desk.specs.declared.Desk.{Desk}
 use Rattle.desk.proofs.Sound.{sound, is-array}
@@ -39,8 +39,8 @@ module _ {c : Code} (p : Proper c) where
       (all-take (IsSymbol (c .degree)) n a s) (row-length (length ks) n a l) (w .0 .1))
       (rows-reduced ks (drop n a) (w .1) (rest-length (length ks) n a l) (all-drop (IsSymbol (c .degree)) n a s))
 
-pub no-misfit : {d : Desk} → Made d → Verdict d 0 ↔ CodeArray (codeOf d) (arrayOf d)
+pub no-misfit : {d : Desk} → Made d → Verdict d 0 ↔ CodeArray (deskCode d) (arrayOf d)
 no-misfit {d} m =
     let p = sound m .frame .proper in
     let a = is-array (sound m) in
-    Iff·trans (rows-reduced p (codeOf d .lengths) (arrayOf d) (p .lengths) (a .count) (a .symbols)) (Iff·symm (code-array-exactly p a))
+    Iff·trans (rows-reduced p (deskCode d .lengths) (arrayOf d) (p .lengths) (a .count) (a .symbols)) (Iff·symm (code-array-exactly p a))

@@ -12,22 +12,25 @@ use native.Mathlib.Omega.{arith}
 use lib.ListN.{getD}
 use lib.Seq.{getD-take}
 use Rattle.refusal.specs.Refusal.{first}
-use Rattle.mark.specs.Code.{columns, rows, differsAt}
-use Rattle.mark.proofs.Columns.{agree-exactly, agree-at}
-use Rattle.desk.specs.Desk.{codeOf, arrayOf, placed, putChecks, putting, Made}
+use Rattle.codes.specs.Code.{columns, rows, differsAt}
+use Rattle.mark.specs.Promises.{meaning}
+use Rattle.codes.proofs.Columns.{agree-exactly, agree-at}
+use Rattle.desk.specs.Desk.{deskCode, arrayOf, placed, putChecks, Puts, Made}
 use Rattle.desk.specs.declared.Desk.{Desk}
+use Rattle.desk.specs.declared.Put.{Put}
+use Rattle.desk.proofs.Promised.{handed-done}
 use Rattle.desk.proofs.Columns.{column-there, column-other, cell, one-cell}
 use Rattle.desk.proofs.Sound.{puttable, sound}
 
-module _ (d : Desk) (i : ℕ) (s : List ℕ) (m : Made d) (e : 0 ≡ first (putChecks d i s)) where
+module _ (d : Desk) (i : ℕ) (s : List ℕ) (r : Put) (m : Made d) (e : 0 ≡ first (putChecks d i s)) (h : Puts d i s r) where
   abbrev after : Desk
-  after = putting d i s .desk
+  after = r .desk
 
   next : after ≡ placed d i s
-  next = rw (← e) refl
+  next = handed-done (putChecks d i s) (placed d i s) d (meaning (r .outcome), r .desk) h e
 
-  pub code-kept : codeOf after ≡ codeOf d
-  code-kept = ap codeOf next
+  pub code-kept : deskCode after ≡ deskCode d
+  code-kept = ap deskCode next
 
   pub column-put : (l : ℕ) → l < d .rows → getD (arrayOf after) (l * d .columns + i) 0 ≡ getD s l 0
   column-put l q =
@@ -49,8 +52,8 @@ module _ (d : Desk) (i : ℕ) (s : List ℕ) (m : Made d) (e : 0 ≡ first (putC
       ∙ sym (getD-take (d .rows * d .columns) (placed d i s .array) there 0 inside)
       ∙ sym (ap (λ (w : Desk). getD (arrayOf w) there 0) next)
 
-  pub others-kept : (j : ℕ) → j < d .columns → (j ≡ i → ⊥) → differsAt (codeOf d) (arrayOf d) (arrayOf after) j ≡ false
+  pub others-kept : (j : ℕ) → j < d .columns → (j ≡ i → ⊥) → differsAt (deskCode d) (arrayOf d) (arrayOf after) j ≡ false
   others-kept j b n =
-      agree-exactly (rows (codeOf d)) (columns (codeOf d)) j (arrayOf d) (arrayOf after) .1
-      (agree-at (rows (codeOf d)) (columns (codeOf d)) j (arrayOf d) (arrayOf after) .1
+      agree-exactly (rows (deskCode d)) (columns (deskCode d)) j (arrayOf d) (arrayOf after) .1
+      (agree-at (rows (deskCode d)) (columns (deskCode d)) j (arrayOf d) (arrayOf after) .1
       (rw (sound m .frame .row-count, sound m .frame .column-count) (same j b n)))

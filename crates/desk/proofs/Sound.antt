@@ -5,7 +5,7 @@
 --                         not use are zero
 --   Sound d          the desk has such a code; its array is symbols, and zero in the places that the code does not use
 --   is-array         the array of a sound desk is one of its code
---   Passed c         what the checks of opening leave; passed, from them
+--   Openable c         what the checks of opening leave; passed, from them
 --   Puttable d i s   what the checks of putting leave; puttable, from them
 --   code-zero        the code of the desk that a code was opened with
 --   sound            a desk that came from opening and putting is sound
@@ -24,16 +24,18 @@ use borrow.Author.Tests.{eqb-true, leb-false, not-false}
 use Rattle.patch.specs.Parts.{lay}
 use Rattle.patch.proofs.Parts.{length-lay, lay-above, laid-front}
 use Rattle.refusal.specs.Refusal.{first, badDegree, outside, someOutside, outsideField, someOutsideField, isIn, repeated, badPoints}
-use Rattle.refusal.proofs.Laws.{within, clear}
+use Rattle.refusal.proofs.Laws.{within}
+use Rattle.refusal.proofs.Ladders.{clear}
 use Rattle.field.specs.Symbols.{IsSymbol}
 use Rattle.field.proofs.Instance.{field}
 use Rattle.poly.specs.Poly.{All}
-use Rattle.mark.specs.Code.{Code, columns, rows, IsArray}
-use Rattle.mark.specs.Code as mark
-use Rattle.mark.proofs.Parts.{all-take}
-use Rattle.mark.proofs.Proper.{Proper, proper, symbols-test}
-use Rattle.desk.specs.Desk.{codeOf, arrayOf, zeros, zeroDesk, spareCode, deskBy, openChecks, placed, putChecks, Made, opened, put}
+use Rattle.codes.specs.Code.{Code, codeOf, columns, rows, IsArray}
+use Rattle.codes.proofs.Parts.{all-take}
+use Rattle.codes.proofs.Proper.{Proper, proper, symbols-test}
+use Rattle.desk.specs.Desk.{deskCode, arrayOf, zeros, zeroDesk, spareCode, openChecks, placed, putChecks, Made, opened, put}
 use Rattle.desk.specs.declared.Desk.{Desk}
+use Rattle.mark.specs.Promises.{meaning}
+use Rattle.desk.proofs.Promised.{handed}
 use Rattle.desk.proofs.Columns.{length-column, all-column, column-other, cell}
 
 abbrev pub ZeroFrom : ℕ → List ℕ → Type 0
@@ -50,7 +52,7 @@ pub record Framed (d n r : ℕ) (xs ks : List ℕ) : Type 0 where
   pub lengths-size : length ks ≡ 4
   pub column-count : length (take n xs) ≡ n
   pub row-count : length (take r ks) ≡ r
-  pub proper : Proper (mark.codeOf d (take n xs) (take r ks))
+  pub proper : Proper (codeOf d (take n xs) (take r ks))
   pub unused-points : ZeroFrom n xs
   pub unused-lengths : ZeroFrom r ks
 
@@ -60,7 +62,7 @@ pub record Sound (d : Desk) : Type 0 where
   pub symbols : All (IsSymbol (d .degree)) (d .array)
   pub unused-places : ZeroFrom (d .rows * d .columns) (d .array)
 
-pub is-array : {d : Desk} → Sound d → IsArray (codeOf d) (arrayOf d)
+pub is-array : {d : Desk} → Sound d → IsArray (deskCode d) (arrayOf d)
 is-array {d} h = let f = h .frame in record {
   count = rw (f .column-count, f .row-count) (length-take-le (d .rows * d .columns) (d .array) (omega (arith, h .array-size)));
   symbols = all-take (IsSymbol (d .degree)) (d .rows * d .columns) (d .array) (h .symbols);
@@ -68,7 +70,7 @@ is-array {d} h = let f = h .frame in record {
 
 -- ---- opening
 
-pub record Passed (c : Code) : Type 0 where
+pub record Openable (c : Code) : Type 0 where
   pub degree : badDegree (c .degree) ≡ false
   pub some-rows : 1 ≤ rows c
   pub most-rows : rows c ≤ 4
@@ -76,7 +78,7 @@ pub record Passed (c : Code) : Type 0 where
   pub most-columns : columns c ≤ 16
   pub proper : Proper c
 
-pub passed : (c : Code) → 0 ≡ first (openChecks c) → Passed c
+pub passed : (c : Code) → 0 ≡ first (openChecks c) → Openable c
 passed c e =
     let p₁ = clear 0 _ _ e in
     let p₂ = clear 1 _ _ (p₁ .1) in
@@ -117,10 +119,10 @@ front n l h = laid-front l (zeros n) refl refl (omega (arith, length-zeros n))
 zero-behind : (n : ℕ) (l : List ℕ) → ZeroFrom (length l) (lay 0 l (zeros n))
 zero-behind n l i h = lay-above 0 l (zeros n) i (omega arith) ∙ zeros-zero n i
 
-pub code-zero : (c : Code) → Passed c → codeOf (zeroDesk c) ≡ c
-code-zero c p = ap₂ (mark.codeOf (c .degree)) (front 16 (c .points) (p .most-columns)) (front 4 (c .lengths) (p .most-rows))
+pub code-zero : (c : Code) → Openable c → deskCode (zeroDesk c) ≡ c
+code-zero c p = ap₂ (codeOf (c .degree)) (front 16 (c .points) (p .most-columns)) (front 4 (c .lengths) (p .most-rows))
 
-sound-zero : (c : Code) → Passed c → Sound (zeroDesk c)
+sound-zero : (c : Code) → Openable c → Sound (zeroDesk c)
 sound-zero c p = let same = code-zero c p in record {
   frame = record {
     degree = p .degree;
@@ -143,7 +145,7 @@ sound-zero c p = let same = code-zero c p in record {
 }
 
 -- the desk that a refused opening hands over could itself be opened
-spare-passed : Passed spareCode
+spare-passed : Openable spareCode
 unfolding first badDegree outside someOutside outsideField someOutsideField isIn repeated badPoints
 spare-passed = passed spareCode refl
 
@@ -177,13 +179,9 @@ sound-placed d i s h p =
     }
 
 pub sound : {d : Desk} → Made d → Sound d
-sound (opened c) = go (first (openChecks c)) refl
-  where
-    go : (k : ℕ) → k ≡ first (openChecks c) → Sound (deskBy k (zeroDesk c) (zeroDesk spareCode))
-    go zero e = sound-zero c (passed c e)
-    go (suc k) e = sound-zero spareCode spare-passed
-sound (put d i s m) = go (sound m) (first (putChecks d i s)) refl
-  where
-    go : Sound d → (k : ℕ) → k ≡ first (putChecks d i s) → Sound (deskBy k (placed d i s) d)
-    go h zero e = sound-placed d i s h (puttable d i s e)
-    go h (suc k) e = h
+sound (opened c r h) = handed (openChecks c) (zeroDesk c) (zeroDesk spareCode) (meaning (r .outcome), r .desk) h
+    (λ none e. subst Sound (sym e) (sound-zero c (passed c none)))
+    (λ e. subst Sound (sym e) (sound-zero spareCode spare-passed))
+sound (put d i s r m h) = handed (putChecks d i s) (placed d i s) d (meaning (r .outcome), r .desk) h
+    (λ none e. subst Sound (sym e) (sound-placed d i s (sound m) (puttable d i s none)))
+    (λ e. subst Sound (sym e) (sound m))

@@ -10,8 +10,7 @@
 --   row-fits, row-fits-not    the count of a row by them
 -- Assumes nothing.
 use mathlib.Core.Path.{_≡_, refl, sym, ap, _∙_}
-use mathlib.Core.Logic.{_↔_, Iff·trans, Iff·symm}
-use mathlib.Core.Bool.{true, false, true≢false}
+use mathlib.Core.Logic.{_↔_}
 use mathlib.Core.List.{List, [], _∷_}
 use Prim.Native.Nat.{ℕ, suc, _+_, _-_, _*_, _≤_, _<_}
 use native.Mathlib.Nat.{zero-add, add-zero, suc-add, add-assoc, zero-mul, suc-mul, le-refl}
@@ -19,20 +18,20 @@ use native.Mathlib.Numerals.{add-one}
 use native.Mathlib.Omega.{arith}
 use lib.ListN.{length, getD, take, drop, length-drop, drop-of-length-le}
 use lib.Seq.{length-take-le, take-take, take-length, drop-cons, drop-drop}
-use Rattle.refusal.specs.Refusal.{someOutside}
 use Rattle.refusal.proofs.Laws.{each-within}
 use Rattle.field.specs.Arithmetic.{gf}
 use Rattle.field.proofs.Instance.{field}
-use Rattle.poly.specs.Poly.{All}
+use Rattle.poly.specs.Poly.{Zero}
 use Rattle.poly.proofs.Forms.{reduce}
 use Rattle.poly.proofs.OneOff.{row-exactly}
 use Rattle.rows.proofs.Sharing.{fewer-rounds}
-use Rattle.mark.specs.Code.{Code, columns, rows}
-use Rattle.mark.proofs.Parts.{all-map, all-take, all-drop}
-use Rattle.mark.proofs.Passed.{up-to-largest}
-use Rattle.mark.proofs.Proper.{lengths-test}
+use Rattle.codes.specs.Code.{Code, columns, rows}
+use Rattle.codes.proofs.Parts.{all-take, all-drop}
+use Rattle.codes.proofs.Passed.{up-to-largest}
+use Rattle.codes.proofs.Proper.{lengths-test}
+use Rattle.mark.specs.Working.{RowGiven}
 use Rattle.desk.specs.Verdict.{IsRow, Misfits, none, fits, fits-not}
-use Rattle.desk.specs.Working.{RowGiven, RowsGiven}
+use Rattle.desk.specs.Working.{FewGiven, RowsGiven}
 use Rattle.desk.proofs.Columns.{row-end}
 
 module _ {d : ℕ} {xs : List ℕ} where
@@ -94,44 +93,40 @@ module _ {t ws : List ℕ} {c : Code} {a : List ℕ} (g : RowsGiven t ws c a) {c
   row-inside = omega (arith, g .given .array .count, so-far .place, row-end (rows c) (columns c) l h)
 
   pub row-given : {k : ℕ} → k ≡ getD (c .lengths) l 0
-      → RowGiven (c .degree) t (c .points) k ws (take (start + columns c - start) (drop start a))
+      → FewGiven (c .degree) t (c .points) k ws (take (start + columns c - start) (drop start a))
   row-given e =
       let p = g .given in
       let n = columns c in
       let all : start + n - start ≡ n = omega arith in
       let size : start + n - start ≤ length (drop start a) = omega (arith, row-inside, length-drop start a) in
       record {
-        degree = p .degree;
-        table = p .table;
-        points = record { symbols = p .proper .symbols; distinct = p .proper .distinct };
-        most-points = p .most-columns;
-        length-in = rw e (each-within 1 n (c .lengths) (lengths-test 1 n (c .lengths) .1 (p .proper .lengths)) l h .1);
-        count = length-take-le (start + n - start) (drop start a) size ∙ all;
-        symbols = all-take _ (start + n - start) (drop start a) (all-drop _ start a (p .array .symbols));
-        inverses = rw e (fewer-rounds _ _ (g .inverses) (up-to-largest (c .lengths) l h));
+        row = record {
+          degree = p .degree;
+          table = p .table;
+          points = record { symbols = p .proper .symbols; distinct = p .proper .distinct };
+          most-points = omega (arith, p .most-columns);
+          length-in = rw e (each-within 1 n (c .lengths) (lengths-test 1 n (c .lengths) .1 (p .proper .lengths)) l h .1);
+          count = length-take-le (start + n - start) (drop start a) size ∙ all;
+          symbols = all-take _ (start + n - start) (drop start a) (all-drop _ start a (p .array .symbols));
+          inverses = rw e (fewer-rounds _ _ (g .inverses) (up-to-largest (c .lengths) l h));
+        };
+        few = p .most-columns;
       }
-
-all-zero : (l : List ℕ) → (someOutside 0 0 l ≡ false) ↔ All (λ (a : ℕ). a ≡ 0) l
-all-zero l = Iff·trans (lengths-test 0 0 l) (
-  all-map (λ (a : ℕ). (0 ≤ a) × (a ≤ 0)) (λ (a : ℕ). a ≡ 0) l (λ a h. omega arith),
-  all-map (λ (a : ℕ). a ≡ 0) (λ (a : ℕ). (0 ≤ a) × (a ≤ 0)) l (λ a h. (omega arith, omega arith)),
-)
 
 -- the reduced values behind the first k
 abbrev pub behind : (d : ℕ) (xs : List ℕ) (k : ℕ) (ys : List ℕ) → List ℕ
 behind d xs k ys = drop k (reduce (gf d) k xs ys)
 
 module _ {d : ℕ} {t xs : List ℕ} {k : ℕ} {ws ys : List ℕ} (g : RowGiven d t xs k ws ys) where
-  is-row : IsRow d xs k ys ↔ (someOutside 0 0 (behind d xs k ys) ≡ false)
-  is-row = Iff·trans
-      (row-exactly (gf d) (field d (g .degree)) k xs ys (g .points .distinct) (g .points .symbols) (g .symbols) (g .count) (g .length-in))
-      (Iff·symm (all-zero (behind d xs k ys)))
+  is-row : IsRow d xs k ys ↔ Zero (gf d) (behind d xs k ys)
+  is-row =
+      row-exactly (gf d) (field d (g .degree)) k xs ys (g .points .distinct) (g .points .symbols) (g .symbols) (g .count) (g .length-in)
 
   whole : take (length xs) ys ≡ ys
   whole = rw (← g .count) (take-length ys)
 
-  pub row-fits : someOutside 0 0 (behind d xs k ys) ≡ false → Misfits d xs (k ∷ []) ys 0
-  row-fits e = fits {k = k} {a = ys} (rw whole (is-row .1 e)) none
+  pub row-fits : Zero (gf d) (behind d xs k ys) → Misfits d xs (k ∷ []) ys 0
+  row-fits z = fits {k = k} {a = ys} (rw whole (is-row .1 z)) none
 
-  pub row-fits-not : someOutside 0 0 (behind d xs k ys) ≡ true → Misfits d xs (k ∷ []) ys 1
-  row-fits-not e = fits-not {k = k} {a = ys} (rw whole (λ r. true≢false (sym e ∙ is-row .0 r))) none
+  pub row-fits-not : (Zero (gf d) (behind d xs k ys) → ⊥) → Misfits d xs (k ∷ []) ys 1
+  row-fits-not z = fits-not {k = k} {a = ys} (rw whole (λ r. z (is-row .0 r))) none

@@ -11,7 +11,7 @@ use Prim.Native.Nat.{ℕ, suc}
 use lib.ListN.{length, take, drop}
 use Rattle.field.specs.Arithmetic.{gf}
 use Rattle.poly.specs.Poly.{Poly, valuesAt}
-use Rattle.desk.specs.Desk.{codeOf, arrayOf}
+use Rattle.desk.specs.Desk.{deskCode, arrayOf}
 use Rattle.desk.specs.declared.Desk.{Desk}
 use Rattle.desk.specs.declared.Judged.{Judged}
 
@@ -27,7 +27,7 @@ pub data Misfits (d : ℕ) (xs : List ℕ) : List ℕ → List ℕ → ℕ → T
       → Misfits d xs (k ∷ ks) a (suc v)
 
 abbrev pub Verdict : Desk → ℕ → Type 0
-Verdict d v = Misfits (codeOf d .degree) (codeOf d .points) (codeOf d .lengths) (arrayOf d) v
+Verdict d v = Misfits (deskCode d .degree) (deskCode d .points) (deskCode d .lengths) (arrayOf d) v
 
 -- 'Each operation consumes the old desk and hands the new one back': the verdict hands it back as it was
 pub record Judges (d : Desk) (r : Judged) : Type 0 where

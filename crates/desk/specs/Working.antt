@@ -1,8 +1,7 @@
 -- What the functions inside the desk's calls ask. No promise cites these.
 --
 --   Placeable d i              the column i is one of the desk d, and the desk's cells are inside its array
---   RowGiven d t xs k ws ys    a row ys of symbols, one for each of at most 16 points xs, and its length k; t is the field's
---                              table, ws are the inverses of k rounds
+--   FewGiven d t xs k ws ys    a row that can be reduced, over at most 16 points
 --   ArrayGiven t c a           an array a of a proper code c within the desk's limits
 --   RowsGiven t ws c a         so it is, and ws are the inverses of the longest row's rounds
 use mathlib.Core.Path.{_≡_}
@@ -11,12 +10,11 @@ use mathlib.Core.List.{List}
 use Prim.Native.Nat.{ℕ, _*_, _≤_, _<_}
 use lib.ListN.{length}
 use Rattle.refusal.specs.Refusal.{badDegree}
-use Rattle.field.specs.Symbols.{IsSymbol}
-use Rattle.field.specs.Tables.{IsTable}
-use Rattle.poly.specs.Poly.{All}
-use Rattle.rows.specs.Rows.{Points, Inverses}
-use Rattle.mark.specs.Code.{Code, columns, rows, IsArray, largest}
-use Rattle.mark.proofs.Proper.{Proper}
+use Rattle.field.specs.Working.Tables.{IsTable}
+use Rattle.rows.specs.Working.Rows.{Inverses}
+use Rattle.codes.specs.Code.{Code, columns, rows, IsArray, largest}
+use Rattle.codes.proofs.Proper.{Proper}
+use Rattle.mark.specs.Working.{RowGiven}
 use Rattle.desk.specs.declared.Desk.{Desk}
 
 pub record Placeable (d : Desk) (i : ℕ) : Type 0 where
@@ -24,15 +22,9 @@ pub record Placeable (d : Desk) (i : ℕ) : Type 0 where
   pub most-rows : d .rows ≤ 4
   pub cells : d .rows * d .columns ≤ 64
 
-pub record RowGiven (d : ℕ) (t xs : List ℕ) (k : ℕ) (ws ys : List ℕ) : Type 0 where
-  pub degree : badDegree d ≡ false
-  pub table : IsTable d t
-  pub points : Points d xs
-  pub most-points : length xs ≤ 16
-  pub length-in : k ≤ length xs
-  pub count : length ys ≡ length xs
-  pub symbols : All (IsSymbol d) ys
-  pub inverses : Inverses d xs k ws
+pub record FewGiven (d : ℕ) (t xs : List ℕ) (k : ℕ) (ws ys : List ℕ) : Type 0 where
+  pub row : RowGiven d t xs k ws ys
+  pub few : length xs ≤ 16
 
 pub record ArrayGiven (t : List ℕ) (c : Code) (a : List ℕ) : Type 0 where
   pub degree : badDegree (c .degree) ≡ false

@@ -1,7 +1,7 @@
 // The checks of the desk's calls, in order.
 ghost use mathlib.Core.Path.{_≡_};
 ghost use Rattle.refusal.specs.Refusal.{first};
-ghost use Rattle.mark.specs.Code.{codeOf};
+ghost use Rattle.codes.specs.Code.{codeOf};
 ghost use Rattle.desk.specs.Desk.{openChecks, putChecks};
 use crate::Desk;
 
@@ -9,22 +9,11 @@ use crate::Desk;
 pub fn open_refusal(degree: u32, points: &[u8], lengths: &[u8]) -> u8
     ensures { λ r. ⌜ r ≡ first (openChecks (codeOf degree (now (points .entry)) (now (lengths .entry)))) ⌝ }
 {
-    if refusal::bad_degree(degree) {
-        return 1;
+    let k = mark::checks::code_refusal(16, degree, lengths, points);
+    if k != 0 {
+        return k;
     }
-    if refusal::outside(1, 4, lengths.len()) {
-        return 2;
-    }
-    if refusal::outside(1, 16, points.len()) {
-        return 3;
-    }
-    if refusal::some_outside(1, points.len(), lengths) {
-        return 4;
-    }
-    if refusal::bad_points(degree, points) {
-        return 6;
-    }
-    0
+    mark::checks::points_refusal(degree, points)
 }
 
 // The first check of putting a column that applies, 0 where none does.

@@ -1,8 +1,8 @@
 // How many rows of an array are not values of a polynomial with at most as many coefficients as the row's length.
 ghost use mathlib.Core.List.{[], _∷_};
-ghost use Rattle.mark.specs.Code.{codeOf};
+ghost use Rattle.codes.specs.Code.{codeOf};
 ghost use Rattle.desk.specs.Verdict.{Misfits};
-ghost use Rattle.desk.specs.Working.{ArrayGiven, RowGiven, RowsGiven};
+ghost use Rattle.desk.specs.Working.{ArrayGiven, FewGiven, RowsGiven};
 use field::tables::Table;
 use mark::checks;
 use mark::checks::wide;
@@ -10,15 +10,12 @@ use mark::checks::wide;
 // 1 where the row is not values of a polynomial with at most k coefficients, 0 where it is: k rounds of divided differences
 // leave something, or nothing, but zeros; ws are the inverses of the rounds.
 fn misfit(table: &Table, degree: u32, points: &[u8], k: usize, ws: &[u8], row: &[u8]) -> usize
-    requires { ⌜ RowGiven degree (now table) (now points) k (now ws) (now row) ⌝ }
+    requires { ⌜ FewGiven degree (now table) (now points) k (now ws) (now row) ⌝ }
     ensures { λ r. ⌜ Misfits degree (now (points .entry)) (k ∷ []) (now (row .entry)) r ⌝ }
 {
-    let n = points.len();
     let mut s = [0u8; 32];
-    rows::store(row, &mut s, 0);
-    rows::lent::reduce(table, degree, points, k, ws, &mut s);
-    let nonzero = refusal::some_outside(0, 0, &s[k..n]);
-    if nonzero { 1 } else { 0 }
+    let good = mark::reading::reduce_row(table, degree, points, k, ws, row, &mut s);
+    if good { 0 } else { 1 }
 }
 
 // The number of rows of the array that do not fit, ws being the inverses of the longest row's rounds.

@@ -5,8 +5,8 @@ mod fit;
 ghost use mathlib.Core.Path.{_≡_};
 ghost use Prim.Native.Nat.{_≤_};
 ghost use lib.ListN.{length, take};
-ghost use Rattle.mark.specs.Code.{codeOf};
-ghost use Rattle.desk.specs.Desk.{Made, opening, placed, putting, zeroDesk};
+ghost use Rattle.codes.specs.Code.{codeOf};
+ghost use Rattle.desk.specs.Desk.{Made, Opens, Puts, placed, zeroDesk};
 ghost use Rattle.desk.specs.Verdict.{Judges};
 ghost use Rattle.desk.specs.Working.{Placeable};
 use field::tables;
@@ -64,7 +64,7 @@ impl Desk {
 
     // Opens a desk; refusals 1, 2, 3, 4, 6. A refused opening hands over the zero desk of GF(4) with points 0 1 and k 1.
     pub fn open(degree: u32, points: &[u8], lengths: &[u8]) -> Opened
-        ensures { λ r. ⌜ r ≡ opening (codeOf degree (now (points .entry)) (now (lengths .entry))) ⌝ }
+        ensures { λ r. ⌜ Opens (codeOf degree (now (points .entry)) (now (lengths .entry))) r ⌝ }
         ensures { λ r. ⌜ Made (r .desk) ⌝ }
     {
         let k = checks::open_refusal(degree, points, lengths);
@@ -107,7 +107,7 @@ impl Desk {
     // back as it was.
     pub fn put(mut self, column: usize, symbols: &[u8]) -> Put
         requires { ⌜ Made self ⌝ }
-        ensures { λ r. ⌜ r ≡ putting self column (now (symbols .entry)) ⌝ }
+        ensures { λ r. ⌜ Puts self column (now (symbols .entry)) r ⌝ }
         ensures { λ r. ⌜ Made (r .desk) ⌝ }
     {
         let k = checks::put_refusal(self, column, symbols);

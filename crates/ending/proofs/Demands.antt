@@ -1,6 +1,5 @@
 -- What the endings mean for code arrays.
 --
---   Nearest c y τ w a   a is a code array that differs from y in exactly w ≤ τ columns, every other one in more than w
 --   corrected-means     'corrected' leaves the nearest code array
 --   none-means          'none': no code array is within τ columns
 --   safe-exactly        at the safe limit or below: 'corrected' exactly when some code array is within τ columns
@@ -12,14 +11,16 @@ use mathlib.Core.List.{List}
 use Prim.Native.Nat.{ℕ, _≤_, _<_}
 use native.Mathlib.Decide.{decLe, decLt}
 use native.Mathlib.Omega.{arith}
+use Rattle.refusal.specs.Meaning.{numberOf}
 use Rattle.field.specs.Arithmetic.{Arithmetic, gf}
 use Rattle.poly.proofs.Locators.{loc, loc-multiple}
-use Rattle.mark.specs.Code.{Code, columns, IsMessage, IsArray, encoded, CodeArray, flagsOf, wrongCount, jointLimit, safeLimit}
-use Rattle.mark.proofs.Proper.{Proper}
-use Rattle.mark.proofs.Limits.{Room, joint-room, safe-room}
-use Rattle.mark.proofs.Columns.{wrongPoints, wrong-count, wrong-distinct, wrong-symbols}
+use Rattle.codes.specs.Code.{Code, columns, IsMessage, IsArray, encoded, CodeArray, flagsOf, wrongCount, jointLimit, safeLimit}
+use Rattle.codes.specs.Near.{Nearest, Near, Far}
+use Rattle.codes.proofs.Proper.{Proper}
+use Rattle.codes.proofs.Limits.{Room, joint-room, safe-room}
+use Rattle.codes.proofs.Columns.{wrongPoints, wrong-count, wrong-distinct, wrong-symbols}
 use Rattle.ending.specs.Locators.{Locator, Multiple, Least, OnlyOne, Divides}
-use Rattle.ending.specs.Endings.{codeOf, Buffers, Corrects, Ends}
+use Rattle.ending.specs.Endings.{meaning, Buffers, Corrects, Ends}
 use Rattle.ending.specs.declared.Ending.{Ending}
 use Rattle.ending.specs.declared.Ending.the-variants.{Refused, Corrected, Nothing, Several, Hollow}
 use Rattle.ending.proofs.Division.{divides-exactly, divides-shared, divides-unique}
@@ -27,17 +28,7 @@ use Rattle.ending.proofs.Multiples.{vanishes-multiple}
 use Rattle.ending.proofs.WrongColumns.{code-divides, code-locator, vanishes-wrong, wrong-roots, wrong-few, wrong-number}
 use Rattle.ending.proofs.Exclusive.{exclusive}
 
-pub record Nearest (c : Code) (y : List ℕ) (τ w : ℕ) (a : List ℕ) : Type 0 where
-  pub code : CodeArray c a
-  pub wrong : wrongCount c y a ≡ w
-  pub within : w ≤ τ
-  pub others : (b : List ℕ) → CodeArray c b → ¬ (b ≡ a) → w < wrongCount c y b
-
--- some code array is within τ columns
-abbrev pub Near : Code → List ℕ → ℕ → Type 0
-Near c y τ = (a : List ℕ) × CodeArray c a × (wrongCount c y a ≤ τ)
-
-is-corrected : (e : Ending) → codeOf e ≡ 1 → (w : ℕ) × (e ≡ Corrected w)
+is-corrected : (e : Ending) → numberOf (meaning e) ≡ 1 → (w : ℕ) × (e ≡ Corrected w)
 is-corrected (Refused k) h = absurd (omega arith)
 is-corrected (Corrected w) h = (w, refl)
 is-corrected Nothing h = absurd (omega arith)
@@ -94,7 +85,7 @@ module _ {c : Code} (p : Proper c) {y : List ℕ} (received : IsArray c y) (τ :
           absurd (apart (sym e ∙ ap (encoded c) (one-answer room (h .only) (h .message) (h .divides) i same) ∙ sym (h .array)))
 
   pub corrected-means : τ ≤ jointLimit c → (w : ℕ) (lent left : Buffers) → Ends c y τ lent (Corrected w) left
-      → Nearest c y τ w (left .array)
+      → Nearest (CodeArray c) (wrongCount c y) τ w (left .array)
   corrected-means l w lent left h = record {
     code = corrected-code h;
     wrong = sym (h .detail);
@@ -102,7 +93,7 @@ module _ {c : Code} (p : Proper c) {y : List ℕ} (received : IsArray c y) (τ :
     others = corrected-others l h;
   }
 
-  pub none-means : (lent left : Buffers) → Ends c y τ lent Nothing left → (a : List ℕ) → CodeArray c a → τ < wrongCount c y a
+  pub none-means : (lent left : Buffers) → Ends c y τ lent Nothing left → Far (CodeArray c) (wrongCount c y) τ
   none-means lent left h a (m, i, e) = subst (λ (b : List ℕ). τ < wrongCount c y b) e (go (decLe (wrongCount c y (encoded c m)) τ))
     where
       go : Dec (wrongCount c y (encoded c m) ≤ τ) → τ < wrongCount c y (encoded c m)
@@ -158,15 +149,15 @@ module _ {c : Code} (p : Proper c) {y : List ℕ} (received : IsArray c y) (τ :
         detail = refl;
       }
 
-    pub safe-exactly : (e : Ending) (lent left : Buffers) → Ends c y τ lent e left → ((w : ℕ) × (e ≡ Corrected w)) ↔ Near c y τ
+    pub safe-exactly : (e : Ending) (lent left : Buffers) → Ends c y τ lent e left → ((w : ℕ) × (e ≡ Corrected w)) ↔ Near (CodeArray c) (wrongCount c y) τ
     safe-exactly e lent left h = (to, from)
       where
-        to : (w : ℕ) × (e ≡ Corrected w) → Near c y τ
+        to : (w : ℕ) × (e ≡ Corrected w) → Near (CodeArray c) (wrongCount c y) τ
         to (w, q) =
             let g : Ends c y τ lent (Corrected w) left = subst (λ (f : Ending). Ends c y τ lent f left) q h in
             (left .array, corrected-code g, omega (arith, corrected-within g, g .detail))
 
-        from : Near c y τ → (w : ℕ) × (e ≡ Corrected w)
+        from : Near (CodeArray c) (wrongCount c y) τ → (w : ℕ) × (e ≡ Corrected w)
         from (a, (m, i, q), n) =
             let near : wrongCount c y (encoded c m) ≤ τ = rw q n in
             let answer : Buffers = record { array = encoded c m; flags = flagsOf c y (encoded c m) } in
@@ -175,7 +166,7 @@ module _ {c : Code} (p : Proper c) {y : List ℕ} (received : IsArray c y) (τ :
 
     -- 'At the safe limit or below, any ending but "corrected" and "refused" means that no code array is within τ columns.'
     pub safe-otherwise : (e : Ending) (lent left : Buffers) → Ends c y τ lent e left → ((w : ℕ) → ¬ (e ≡ Corrected w))
-        → (a : List ℕ) → CodeArray c a → τ < wrongCount c y a
+        → Far (CodeArray c) (wrongCount c y) τ
     safe-otherwise e lent left h other a i = go (decLe (wrongCount c y a) τ)
       where
         go : Dec (wrongCount c y a ≤ τ) → τ < wrongCount c y a

@@ -17,12 +17,12 @@ use Rattle.field.specs.Arithmetic.{Arithmetic, gf}
 use Rattle.field.proofs.Laws.{Field}
 use Rattle.poly.specs.Poly.{All, Zero, Poly, value, valuesAt, mul, Fits}
 use Rattle.poly.proofs.Roots.{Distinct, Vanishes, mul-cancel}
-use Rattle.mark.specs.Code.{Code, rows, columns, total, IsMessage, IsArray, encodedRows, encoded, differsAt}
-use Rattle.mark.proofs.Parts.{empty, all-take, all-drop, poly-take, row-length, rest-length}
-use Rattle.mark.proofs.Proper.{Within, Proper}
-use Rattle.mark.proofs.Limits.{Room}
-use Rattle.mark.proofs.Messages.{first-row, other-rows}
-use Rattle.mark.proofs.Columns.{Agree, agree-exactly, wrongPoints, wrong-exactly}
+use Rattle.codes.specs.Code.{Code, rows, columns, total, IsMessage, IsArray, encodedRows, encoded, differsAt}
+use Rattle.codes.proofs.Parts.{empty, all-take, all-drop, poly-take, row-length, rest-length}
+use Rattle.codes.proofs.Proper.{Within, Proper}
+use Rattle.codes.proofs.Limits.{Room}
+use Rattle.codes.proofs.Messages.{first-row, other-rows}
+use Rattle.codes.proofs.Columns.{Agree, agree-exactly, wrongPoints, wrong-exactly}
 use Rattle.ending.specs.Locators.{RowsFit, Locator, RowsDivide, Divides}
 use Rattle.ending.proofs.Rows.{poly-product, fits-unique, fits-product, fits-shared}
 

@@ -10,11 +10,12 @@ use mathlib.Core.List.{List}
 use Prim.Native.Nat.{ℕ, _≤_, _<_}
 use native.Mathlib.Decide.{decLt}
 use native.Mathlib.Omega.{arith}
-use Rattle.mark.specs.Code.{Code, IsMessage, IsArray, encoded}
-use Rattle.mark.proofs.Proper.{Proper}
-use Rattle.mark.proofs.Columns.{wrongPoints}
+use Rattle.refusal.specs.Meaning.{numberOf}
+use Rattle.codes.specs.Code.{Code, IsMessage, IsArray, encoded}
+use Rattle.codes.proofs.Proper.{Proper}
+use Rattle.codes.proofs.Columns.{wrongPoints}
 use Rattle.ending.specs.Locators.{Locator, Least, OnlyOne, Divides}
-use Rattle.ending.specs.Endings.{codeOf, Buffers, Corrects, TwoApart, DividesNot, Ends}
+use Rattle.ending.specs.Endings.{meaning, Buffers, Corrects, TwoApart, DividesNot, Ends}
 use Rattle.ending.specs.declared.Ending.{Ending}
 use Rattle.ending.specs.declared.Ending.the-variants.{Refused, Corrected, Nothing, Several, Hollow}
 use Rattle.ending.proofs.Division.{divides-exactly}
@@ -60,7 +61,7 @@ module _ {c : Code} (p : Proper c) {y : List ℕ} where
       not-both l a l′ b = only-apart (b .only) (subst (TwoApart c y) (least-same l l′) a)
 
       pub exclusive : (e e′ : Ending) (lent lent′ left left′ : Buffers) → Ends c y τ lent e left → Ends c y τ lent′ e′ left′
-          → codeOf e ≡ codeOf e′
+          → numberOf (meaning e) ≡ numberOf (meaning e′)
       exclusive (Refused k) e′ i j l l′ h g = absurd h
       exclusive (Corrected w) (Refused k) i j l l′ h g = absurd g
       exclusive (Corrected w) (Corrected w′) i j l l′ h g = refl

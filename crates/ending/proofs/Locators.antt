@@ -15,10 +15,10 @@ use Rattle.field.proofs.Laws.{Field}
 use Rattle.poly.specs.Poly.{All, Zero, Poly, value, Fits}
 use Rattle.poly.proofs.Values.{value-append}
 use Rattle.poly.proofs.Roots.{Distinct}
-use Rattle.mark.specs.Code.{Code, columns, largest, IsArray}
-use Rattle.mark.proofs.Parts.{all-append, row-length, rest-length}
-use Rattle.mark.proofs.Proper.{Proper}
-use Rattle.mark.proofs.Limits.{Room, room}
+use Rattle.codes.specs.Code.{Code, columns, largest, IsArray}
+use Rattle.codes.proofs.Parts.{all-append, row-length, rest-length}
+use Rattle.codes.proofs.Proper.{Proper}
+use Rattle.codes.proofs.Limits.{Room, room}
 use Rattle.ending.specs.Locators.{RowsFit, Locator}
 use Rattle.ending.proofs.Rows.{fits-unique, fits-zero}
 

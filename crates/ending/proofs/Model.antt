@@ -14,10 +14,10 @@ use native.Mathlib.Decide.{ℕ-discrete, decLe, decLt}
 use lib.ListN.{length, take, drop}
 use Rattle.field.specs.Arithmetic.{Arithmetic, gf}
 use Rattle.poly.proofs.Forms.{reduce, newtonValue}
-use Rattle.mark.specs.Code.{Code, rows}
-use Rattle.mark.specs.Lost.{right}
+use Rattle.codes.specs.Code.{Code, rows}
+use Rattle.codes.specs.Lost.{right}
 use Rattle.basis.proofs.Lines.{Row, Line, solve, least, another, size, locatorOf}
-use Rattle.basis.proofs.Lists.{Holds}
+use Rattle.basis.proofs.Scan.{IfFound}
 use Rattle.ending.specs.Endings.{Buffers}
 use Rattle.ending.specs.declared.Ending.{Ending}
 use Rattle.ending.specs.declared.Ending.the-variants.{Corrected, Nothing, Several, Hollow}
@@ -61,7 +61,7 @@ Outcome = Ending × Buffers
 
 -- the lead of the line that o holds, if any, is above m
 abbrev pub Beyond : ℕ → Option (Line ℕ) → Type 0
-Beyond m o = Holds (λ (q : Line ℕ). m < q .lead) o
+Beyond m o = IfFound (λ (q : Line ℕ). m < q .lead) o
 
 unfoldable pub beyond : (m : ℕ) (o : Option (Line ℕ)) → Dec (Beyond m o)
 beyond m none = yes tt

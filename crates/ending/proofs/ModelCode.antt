@@ -9,11 +9,11 @@ use mathlib.Core.List.{List, _∷_}
 use Prim.Native.Nat.{ℕ, zero, suc, _≤_}
 use native.Mathlib.Omega.{arith}
 use lib.ListN.{replicate}
-use Rattle.mark.specs.Code.{Code, rows, columns, total, IsArray, encoded, differsAt, flagsFrom, flagsOf, wrongCount}
-use Rattle.mark.proofs.Proper.{Proper}
-use Rattle.mark.proofs.Messages.{messageOf, Reduced, array-message, its-message}
-use Rattle.mark.proofs.Flags.{flags-same}
-use Rattle.mark.proofs.Columns.{differs-exactly}
+use Rattle.codes.specs.Code.{Code, rows, columns, total, IsArray, encoded, differsAt, flagsFrom, flagsOf, wrongCount}
+use Rattle.codes.proofs.Proper.{Proper}
+use Rattle.codes.proofs.Messages.{messageOf, Reduced, array-message, its-message}
+use Rattle.codes.proofs.Flags.{flags-same}
+use Rattle.codes.proofs.Columns.{differs-exactly}
 use Rattle.ending.specs.Endings.{Buffers, Ends}
 use Rattle.ending.specs.declared.Ending.the-variants.{Corrected}
 use Rattle.ending.proofs.Demands.{near-corrects}

@@ -13,13 +13,13 @@ use native.Mathlib.Decide.{ℕ-discrete, decLe}
 use native.Mathlib.Omega.{arith}
 use lib.ListN.{length}
 use Rattle.field.specs.Arithmetic.{Arithmetic, gf}
-use Rattle.mark.specs.Code.{Code, rows, columns, IsMessage, IsArray, encoded, flagsOf, wrongCount, jointLimit}
-use Rattle.mark.proofs.Proper.{Proper}
-use Rattle.mark.proofs.Limits.{Room, joint-room}
-use Rattle.mark.proofs.Flags.{flags-length, flag-right}
+use Rattle.codes.specs.Code.{Code, rows, columns, IsMessage, IsArray, encoded, flagsOf, wrongCount, jointLimit}
+use Rattle.codes.proofs.Proper.{Proper}
+use Rattle.codes.proofs.Limits.{Room, joint-room}
+use Rattle.codes.proofs.Flags.{flags-length, flag-right}
 use Rattle.basis.proofs.Lines.{Line, least, another, size, locatorOf}
-use Rattle.basis.proofs.Locates.{Plain}
-use Rattle.basis.proofs.LeastSize.{LeastLocator, least-found, least-size, one-locator, two-locators}
+use Rattle.basis.proofs.Interleaved.{Plain}
+use Rattle.basis.proofs.Solved.{LeastLocator, least-found, least-size, one-locator, two-locators}
 use Rattle.ending.specs.Locators.{Locator, Least, OnlyOne, Divides}
 use Rattle.ending.specs.Endings.{Buffers, Corrects, TwoApart, Ends}
 use Rattle.ending.proofs.WrongColumns.{rootAt, rootFlags, rootCount, wrong-number, wrong-columns, right-columns, divides-roots}

@@ -8,9 +8,9 @@ use mathlib.Core.Logic.{_↔_}
 use mathlib.Core.List.{List}
 use Prim.Native.Nat.{ℕ}
 use Rattle.refusal.specs.Refusal.{first}
-use Rattle.mark.specs.Code.{Code}
-use Rattle.mark.specs.Checks.{decodeChecks}
-use Rattle.mark.proofs.Passed.{PassedDecoding, decoding}
+use Rattle.codes.specs.Code.{Code}
+use Rattle.codes.specs.Checks.{decodeChecks}
+use Rattle.codes.proofs.Passed.{PassedDecoding, decoding}
 use Rattle.ending.specs.Endings.{Buffers, Ends}
 use Rattle.ending.proofs.Unique.{unique}
 use Rattle.ending.proofs.Model.{Outcome, decided}

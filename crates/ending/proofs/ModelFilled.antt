@@ -17,14 +17,14 @@ use Rattle.poly.specs.Poly.{All, Poly, value, valuesAt}
 use Rattle.poly.proofs.Forms.{reduce, fromNewton, newtonValue}
 use Rattle.poly.proofs.Newton.{newton-value, newton-unique}
 use Rattle.poly.proofs.Roots.{Distinct, distinct-take}
-use Rattle.mark.specs.Code.{Code, rows, columns, total, IsMessage, IsArray, encodedRows, encoded}
-use Rattle.mark.specs.Lost.{right}
-use Rattle.mark.proofs.Parts.{all-take, all-drop, poly-take, row-length, rest-length}
-use Rattle.mark.proofs.Proper.{Proper}
-use Rattle.mark.proofs.Limits.{Room}
-use Rattle.mark.proofs.Messages.{first-row, other-rows}
-use Rattle.mark.proofs.Flags.{pointsWhere, all-where, distinct-where}
-use Rattle.mark.proofs.Columns.{Agree}
+use Rattle.codes.specs.Code.{Code, rows, columns, total, IsMessage, IsArray, encodedRows, encoded}
+use Rattle.codes.specs.Lost.{right}
+use Rattle.codes.proofs.Parts.{all-take, all-drop, poly-take, row-length, rest-length}
+use Rattle.codes.proofs.Proper.{Proper}
+use Rattle.codes.proofs.Limits.{Room}
+use Rattle.codes.proofs.Messages.{first-row, other-rows}
+use Rattle.codes.proofs.Flags.{pointsWhere, all-where, distinct-where}
+use Rattle.codes.proofs.Columns.{Agree}
 use Rattle.ending.proofs.Model.{filledRow, filledIn, filledRows, filled}
 
 -- the flag of a column is 0

@@ -18,12 +18,12 @@ use Rattle.poly.proofs.Forms.{reduce}
 use Rattle.poly.proofs.Differences.{length-left, symbols-left}
 use Rattle.poly.proofs.OneOff.{Fitting, rounds-off}
 use Rattle.poly.proofs.Roots.{Distinct, distinct-drop, roots}
-use Rattle.mark.specs.Code.{Code, rows, columns, IsArray}
-use Rattle.mark.proofs.Parts.{all-take, all-drop, row-length, rest-length}
-use Rattle.mark.proofs.Proper.{Within, Proper}
-use Rattle.mark.proofs.Limits.{Room}
+use Rattle.codes.specs.Code.{Code, rows, columns, IsArray}
+use Rattle.codes.proofs.Parts.{all-take, all-drop, row-length, rest-length}
+use Rattle.codes.proofs.Proper.{Within, Proper}
+use Rattle.codes.proofs.Limits.{Room}
 use Rattle.basis.proofs.Lines.{Row}
-use Rattle.basis.proofs.Locates.{RowMet, Locates, Plain}
+use Rattle.basis.proofs.Interleaved.{RowMet, Locates, Plain}
 use Rattle.ending.specs.Locators.{RowsFit, Locator}
 use Rattle.ending.proofs.Model.{reducedRows, rowsOf}
 

@@ -22,7 +22,7 @@ use Rattle.poly.proofs.Products.{length-mul, symbols-mul, scale-mul, mul-scale}
 use Rattle.poly.proofs.Values.{value-in, value-zero, value-mul}
 use Rattle.poly.proofs.Roots.{Mem, Distinct, Vanishes, roots, interpolation, mul-cancel}
 use Rattle.poly.proofs.Locators.{loc, loc-divides}
-use Rattle.mark.proofs.Parts.{index-cons}
+use Rattle.codes.proofs.Parts.{index-cons}
 
 module _ {K : Type 0} (A : Arithmetic K) (𝓕 : Field A) where
   infixl 70 _⊗_ _⊘_

@@ -1,26 +1,47 @@
 -- No two distinct outcomes satisfy the table of endings.
 --
+--   meaning-faithful    no two endings have the same number and detail
 --   nearest-same    there is one nearest code array
 --   unique          two outcomes of one decoding are equal: the ending with its detail, and what it leaves in array and flags
 -- Assumes nothing.
-use mathlib.Core.Path.{_≡_, refl, sym, ap, _∙_}
+use mathlib.Core.Path.{_≡_, refl, sym, ap, ap₂, _∙_}
 use mathlib.Core.List.{List, List-discrete}
-use Prim.Native.Nat.{ℕ, _≤_}
+use Prim.Native.Nat.{ℕ, zero, suc, _≤_}
 use native.Mathlib.Decide.{ℕ-discrete}
 use native.Mathlib.Omega.{arith}
-use Rattle.mark.specs.Code.{Code, IsArray, flagsOf, wrongCount, jointLimit}
-use Rattle.mark.proofs.Proper.{Proper}
-use Rattle.ending.specs.Endings.{codeOf, Buffers, Corrects, Ends}
+use Rattle.refusal.specs.Meaning.{numberOf, detailOf}
+use Rattle.codes.specs.Code.{Code, CodeArray, IsArray, flagsOf, wrongCount, jointLimit}
+use Rattle.codes.specs.Near.{Nearest}
+use Rattle.codes.proofs.Proper.{Proper}
+use Rattle.ending.specs.Endings.{meaning, Buffers, Corrects, Ends}
 use Rattle.ending.specs.declared.Ending.{Ending}
 use Rattle.ending.specs.declared.Ending.the-variants.{Refused, Corrected, Nothing, Several, Hollow}
 use Rattle.ending.proofs.Exclusive.{least-same, exclusive}
-use Rattle.ending.proofs.Demands.{Nearest, corrected-means}
+use Rattle.ending.proofs.Demands.{corrected-means}
+
+-- the ending of a number and a detail
+abbrev ending : (number detail : ℕ) → Ending
+ending zero d = Refused d
+ending (suc zero) d = Corrected d
+ending (suc (suc zero)) d = Nothing
+ending (suc (suc (suc zero))) d = Several d
+ending (suc (suc (suc (suc n)))) d = Hollow d
+
+ending-meant : (e : Ending) → ending (numberOf (meaning e)) (detailOf (meaning e)) ≡ e
+ending-meant (Refused k) = refl
+ending-meant (Corrected w) = refl
+ending-meant Nothing = refl
+ending-meant (Several t) = refl
+ending-meant (Hollow t) = refl
+
+pub meaning-faithful : (e e′ : Ending) → numberOf (meaning e) ≡ numberOf (meaning e′) → detailOf (meaning e) ≡ detailOf (meaning e′) → e ≡ e′
+meaning-faithful e e′ p q = sym (ending-meant e) ∙ ap₂ ending p q ∙ ending-meant e′
 
 same-buffers : {a b : Buffers} → a .array ≡ b .array → a .flags ≡ b .flags → a ≡ b
 same-buffers p q i = record { array = p i; flags = q i }
 
 module _ {c : Code} (p : Proper c) {y : List ℕ} (received : IsArray c y) (τ : ℕ) (limit : τ ≤ jointLimit c) where
-  nearest-same : {w w′ : ℕ} {a b : List ℕ} → Nearest c y τ w a → Nearest c y τ w′ b → a ≡ b
+  nearest-same : {w w′ : ℕ} {a b : List ℕ} → Nearest (CodeArray c) (wrongCount c y) τ w a → Nearest (CodeArray c) (wrongCount c y) τ w′ b → a ≡ b
   nearest-same {w} {w′} {a} {b} h g = go (List-discrete ℕ-discrete a b)
     where
       go : Dec (a ≡ b) → a ≡ b
@@ -42,7 +63,7 @@ module _ {c : Code} (p : Proper c) {y : List ℕ} (received : IsArray c y) (τ :
         same-buffers e (h .flags ∙ ap (flagsOf c y) e ∙ sym (g .flags)),
       )
 
-  same : (e e′ : Ending) (lent left left′ : Buffers) → codeOf e ≡ codeOf e′ → Ends c y τ lent e left → Ends c y τ lent e′ left′
+  same : (e e′ : Ending) (lent left left′ : Buffers) → numberOf (meaning e) ≡ numberOf (meaning e′) → Ends c y τ lent e left → Ends c y τ lent e′ left′
       → (e ≡ e′) × (left ≡ left′)
   same (Refused k) e′ lent left left′ q h g = absurd h
   same (Corrected w) (Refused k) lent left left′ q h g = absurd g

@@ -23,11 +23,11 @@ use Rattle.field.proofs.Laws.{Field}
 use Rattle.poly.specs.Poly.{All, Poly, value, scale, mul}
 use Rattle.poly.proofs.Roots.{Mem, Distinct, Vanishes, few-roots}
 use Rattle.poly.proofs.Locators.{loc, poly-loc, loc-nonzero, loc-mem, mem-loc, loc-multiple}
-use Rattle.mark.specs.Code.{Code, rows, columns, total, IsMessage, IsArray, encoded, differsAt, flagsFrom, flagsOf, wrongCount}
-use Rattle.mark.proofs.Parts.{all-map, all-append, row-length, rest-length}
-use Rattle.mark.proofs.Proper.{Within, Proper}
-use Rattle.mark.proofs.Flags.{flags-same, pointsWhere, count-where, where-exactly, all-where, distinct-where, mem-self, mem-at}
-use Rattle.mark.proofs.Columns.{Agree, agree-exactly, wrongPoints, wrong-count, wrong-distinct, wrong-symbols, wrong-exactly, wrong-at}
+use Rattle.codes.specs.Code.{Code, rows, columns, total, IsMessage, IsArray, encoded, differsAt, flagsFrom, flagsOf, wrongCount}
+use Rattle.codes.proofs.Parts.{all-map, all-append, row-length, rest-length}
+use Rattle.codes.proofs.Proper.{Within, Proper}
+use Rattle.codes.proofs.Flags.{flags-same, pointsWhere, count-where, where-exactly, all-where, distinct-where, mem-self, mem-at}
+use Rattle.codes.proofs.Columns.{Agree, agree-exactly, wrongPoints, wrong-count, wrong-distinct, wrong-symbols, wrong-exactly, wrong-at}
 use Rattle.ending.specs.Locators.{RowsFit, Locator, Least, RowsDivide, Divides}
 use Rattle.ending.proofs.Locators.{Fitted}
 use Rattle.ending.proofs.Rows.{fits-vanishes, row-quotient}

@@ -1,36 +1,27 @@
 -- The endings of a decoding: 01, 'Locators and endings', the table.
 --
---   codeOf, detailOf     this paper's number and value of each ending
---   packed               the one number for the C caller
+--   meaning              this paper's number and values of each ending
 --   Buffers              the lent array and flags
+--   Row c y τ lent left m      the row of the table for what an ending means
 --   Ends c y τ lent e left     the decoding of y, not refused, ends as e and turns the buffers lent into left
 use mathlib.Core.Path.{_≡_}
-use mathlib.Core.List.{List}
-use Prim.Native.Nat.{ℕ, _+_, _*_, _≤_}
-use Rattle.mark.specs.Code.{Code, IsMessage, encoded, flagsOf, wrongCount}
+use mathlib.Core.Bool.{cond}
+use mathlib.Core.List.{List, [], _∷_}
+use Prim.Native.Nat.{ℕ, _≤_}
+use lib.Dec.{eqb}
+use Rattle.refusal.specs.Meaning.{Meaning, refusal, numberOf, detailOf}
+use Rattle.codes.specs.Code.{Code, IsMessage, encoded, flagsOf, wrongCount}
 use Rattle.ending.specs.Locators.{Locator, Multiple, Least, OnlyOne, Divides}
 use Rattle.ending.specs.declared.Ending.{Ending}
 use Rattle.ending.specs.declared.Ending.the-variants.{Refused, Corrected, Nothing, Several, Hollow}
 
--- 'ending | code'
-abbrev pub codeOf : Ending → ℕ
-codeOf (Refused k) = 0
-codeOf (Corrected w) = 1
-codeOf Nothing = 2
-codeOf (Several t) = 3
-codeOf (Hollow t) = 4
-
--- 'detail': its number; number of wrong columns; 0; t; t
-abbrev pub detailOf : Ending → ℕ
-detailOf (Refused k) = k
-detailOf (Corrected w) = w
-detailOf Nothing = 0
-detailOf (Several t) = t
-detailOf (Hollow t) = t
-
--- 'For the C caller the answer is one number, 256·code + detail.'
-unfoldable pub packed : Ending → ℕ
-packed e = 256 * codeOf e + detailOf e
+-- 'ending | code', and its 'detail': its number; number of wrong columns; none; t; t
+abbrev pub meaning : Ending → Meaning
+meaning (Refused k) = refusal k
+meaning (Corrected w) = (1, w ∷ [])
+meaning Nothing = (2, [])
+meaning (Several t) = (3, t ∷ [])
+meaning (Hollow t) = (4, t ∷ [])
 
 pub record Buffers : Type 0 where
   pub array : List ℕ
@@ -66,10 +57,13 @@ pub record DividesNot (c : Code) (y : List ℕ) (t : ℕ) : Type 0 where
   pub only : OnlyOne c y t E
   pub not : (m : List ℕ) → IsMessage c m → ¬ Divides c y t E m
 
--- The table. 'Every other ending leaves array and flags untouched.'
+-- The table, by code and detail. 'Every other ending leaves array and flags untouched.' A decoding that is refused has no row here.
+abbrev pub Row : (c : Code) (y : List ℕ) (τ : ℕ) (lent left : Buffers) (code detail : ℕ) → Type 0
+Row c y τ lent left code d =
+    cond (eqb code 1) (Corrects c y τ d left)
+    (cond (eqb code 2) (((t : ℕ) (E : List ℕ) → t ≤ τ → ¬ Locator c y t E) × (left ≡ lent))
+    (cond (eqb code 3) (Least c y τ d × TwoApart c y d × (left ≡ lent))
+    (cond (eqb code 4) (Least c y τ d × DividesNot c y d × (left ≡ lent)) ⊥)))
+
 abbrev pub Ends : Code → List ℕ → ℕ → Buffers → Ending → Buffers → Type 0
-Ends c y τ lent (Refused k) left = ⊥
-Ends c y τ lent (Corrected w) left = Corrects c y τ w left
-Ends c y τ lent Nothing left = ((t : ℕ) (E : List ℕ) → t ≤ τ → ¬ Locator c y t E) × (left ≡ lent)
-Ends c y τ lent (Several t) left = Least c y τ t × TwoApart c y t × (left ≡ lent)
-Ends c y τ lent (Hollow t) left = Least c y τ t × DividesNot c y t × (left ≡ lent)
+Ends c y τ lent e left = Row c y τ lent left (numberOf (meaning e)) (detailOf (meaning e))

@@ -1,2 +1,3 @@
 pub mod Locators
 pub mod Endings
+pub mod Working

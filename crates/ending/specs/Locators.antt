@@ -12,7 +12,7 @@ use lib.ListN.{length, take, drop}
 use Rattle.field.specs.Symbols.{IsSymbol}
 use Rattle.field.specs.Arithmetic.{Arithmetic, gf}
 use Rattle.poly.specs.Poly.{Zero, Poly, scale, mul, Fits}
-use Rattle.mark.specs.Code.{Code}
+use Rattle.codes.specs.Code.{Code}
 
 -- 'for each row l some polynomial N_l with at most k_l + t coefficients has N_l(x) = y·E(x) at every point, y being the received
 -- symbol there'

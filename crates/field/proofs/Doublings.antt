@@ -12,7 +12,7 @@ use native.Mathlib.Decide.{decLt}
 use native.Mathlib.Omega.{arith}
 use lib.ListN.{length, getD, replicate, List·getD-eq-default}
 use Rattle.field.specs.Symbols.{times}
-use Rattle.field.specs.Doublings.{doublingsFrom}
+use Rattle.field.specs.Working.Doublings.{doublingsFrom}
 use Rattle.field.proofs.Products.{Tested, times-comm, zero-times, times-high}
 
 pub doublings-at : (d c i n k : ℕ) → k < n → getD (doublingsFrom d c i n) k 0 ≡ times d (2 ^ (i + k)) c

@@ -16,7 +16,7 @@ use lib.Pow.{pow-pos}
 use Rattle.refusal.specs.Refusal.{badDegree}
 use Rattle.refusal.proofs.Laws.{degrees}
 use Rattle.field.specs.Symbols.{plus, modulus, timesX, timesLow, times}
-use Rattle.field.specs.Tables.{power, powers, placeOf}
+use Rattle.field.specs.Working.Tables.{power, powers, placeOf}
 use Rattle.field.specs.Arithmetic.{gf}
 use Rattle.field.proofs.Laws.{Field}
 use Rattle.field.proofs.Sums.{plus-comm, plus-assoc, zero-plus, plus-self, plus-below}

@@ -19,7 +19,7 @@ use lib.ListN.{length, getD}
 use lib.Pow.{pow-pos, pow-mono}
 use borrow.Author.Tests.{eq-eqb, ne-eqb}
 use Rattle.field.specs.Symbols.{plus, modulus, timesX, times, quotientBelow, over}
-use Rattle.field.specs.Tables.{power, powers, placeOf, Exponent}
+use Rattle.field.specs.Working.Tables.{power, powers, placeOf, Exponent}
 use Rattle.field.proofs.Sums.{plus-low}
 use Rattle.field.proofs.Products.{Tested, times-comm, times-assoc, times-below, one-times, x-times, allBelow, below}
 

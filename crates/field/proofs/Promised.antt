@@ -1,50 +1,51 @@
 -- The promise of the arithmetic calls.
 --
+--   meaning-faithful no two answers mean the same
 --   unique           no two answers keep it
 --   refuses, gives   how it is kept: with the first refusal's number, or with the symbol where there is none
---   Passed d a b     what is known where no check applies
+--   Operands d a b   what is known where no check applies; operands, that it is
 -- Assumes nothing.
 use mathlib.Core.Path.{_≡_, refl, sym, ap, _∙_}
 use mathlib.Core.Bool.{Bool, true, false, _||_}
 use mathlib.Core.List.{List, [], _∷_}
-use Prim.Native.Nat.{ℕ, zero, suc, _^_, _<_}
+use Prim.Native.Nat.{ℕ, _^_, _<_}
 use native.Mathlib.Omega.{arith}
 use Rattle.refusal.specs.Refusal.{Check, _when_, first, badDegree, outsideField}
+use Rattle.refusal.specs.Meaning.{refusal, numberOf, detailOf}
 use Rattle.refusal.proofs.Laws.{inside}
+use Rattle.refusal.proofs.Keeping as keeping
 use Rattle.field.specs.declared.Value.{Value}
 use Rattle.field.specs.declared.Value.the-variants.{Symbol, Refused}
-use Rattle.field.specs.Answers.{checks, meaning, Answers}
+use Rattle.field.specs.Values.{checks, symbol, meaning, Gives}
 
-same-meaning : (v w : Value) → meaning v ≡ meaning w → v ≡ w
-same-meaning (Symbol s) (Symbol t) e = let f : s ∷ [] ≡ t ∷ [] = ap (λ (p : ℕ × List ℕ). p .1) e in cc
-same-meaning (Symbol s) (Refused k) e = let f : s ∷ [] ≡ [] = ap (λ (p : ℕ × List ℕ). p .1) e in cc
-same-meaning (Refused k) (Symbol s) e = let f : [] ≡ s ∷ [] = ap (λ (p : ℕ × List ℕ). p .1) e in cc
-same-meaning (Refused k) (Refused j) e = ap Refused (ap (λ (p : ℕ × List ℕ). p .0) e)
+pub meaning-faithful : (v w : Value) → meaning v ≡ meaning w → v ≡ w
+meaning-faithful (Symbol s) (Symbol t) e = ap Symbol (ap detailOf e)
+meaning-faithful (Symbol s) (Refused k) e = absurd (omega (arith, ap numberOf e))
+meaning-faithful (Refused k) (Symbol s) e = absurd (omega (arith, ap numberOf e))
+meaning-faithful (Refused k) (Refused j) e = ap Refused (ap detailOf e)
 
-pub unique : (cs : List Check) (s : ℕ) (v w : Value) → Answers cs s v → Answers cs s w → v ≡ w
-unique cs s v w p q = same-meaning v w (p ∙ sym q)
+module _ (cs : List Check) (s : ℕ) where
+  pub unique : (v w : Value) → Gives cs s v → Gives cs s w → v ≡ w
+  unique v w p q = meaning-faithful v w
+      (keeping.unique cs refusal (λ m. m ≡ symbol s) (λ e x y p q. p ∙ sym q) (meaning v) (meaning w) p q)
 
-pub refuses : (cs : List Check) (s : ℕ) {k : ℕ} → k ≡ first cs → (k ≡ 0 → ⊥) → Answers cs s (Refused k)
-refuses cs s {k} e n = go k n e
-  where
-    go : (j : ℕ) → (j ≡ 0 → ⊥) → j ≡ first cs → Answers cs s (Refused j)
-    go zero m f = absurd (m refl)
-    go (suc j) m f = rw (← f)
+  pub refuses : {k : ℕ} → k ≡ first cs → (k ≡ 0 → ⊥) → Gives cs s (Refused k)
+  refuses = keeping.refuses cs refusal (λ m. m ≡ symbol s)
 
-pub gives : (cs : List Check) (s : ℕ) {v : ℕ} → 0 ≡ first cs → v ≡ s → Answers cs s (Symbol v)
-gives cs s e f = rw (← e, f)
+  pub gives : {v : ℕ} → 0 ≡ first cs → v ≡ s → Gives cs s (Symbol v)
+  gives {v} e f = keeping.does cs refusal (λ m. m ≡ symbol s) (symbol v) e (ap symbol f)
 
-pub record Passed (d a b : ℕ) : Type 0 where
+pub record Operands (d a b : ℕ) : Type 0 where
   pub degree : badDegree d ≡ false
   pub left : a < 2 ^ d
   pub right : b < 2 ^ d
 
-pub passed : (d a b : ℕ) → 0 ≡ first (checks d a b) → Passed d a b
+pub operands : (d a b : ℕ) → 0 ≡ first (checks d a b) → Operands d a b
 unfolding first
-passed d a b e = go (badDegree d) (outsideField d a) (outsideField d b) refl refl refl e
+operands d a b e = go (badDegree d) (outsideField d a) (outsideField d b) refl refl refl e
   where
     go : (x y z : Bool) → badDegree d ≡ x → outsideField d a ≡ y → outsideField d b ≡ z
-        → 0 ≡ first ((1 when x) ∷ (7 when y || z) ∷ []) → Passed d a b
+        → 0 ≡ first ((1 when x) ∷ (7 when y || z) ∷ []) → Operands d a b
     go true y z p q r f = absurd (omega arith)
     go false true z p q r f = absurd (omega arith)
     go false false true p q r f = absurd (omega arith)

@@ -15,7 +15,7 @@ use native.Mathlib.Omega.{arith}
 use lib.ListN.{length, getD, length-append, List·getD-append}
 use lib.Seq.{getD-take, getD-append-add}
 use Rattle.field.specs.Symbols.{times, over}
-use Rattle.field.specs.Tables.{power, powers, placeOf, placesFrom, tableFrom, tableOf, IsTable, Exponent}
+use Rattle.field.specs.Working.Tables.{power, powers, placeOf, placesFrom, tableFrom, tableOf, IsTable, Exponent}
 use Rattle.field.proofs.Powers.{Generated, length-powers, powers-at, exponent, exponent-below, power-exponent}
 use Rattle.field.proofs.Powers.{power-below, power-add, power-round, over-unique}
 

@@ -1,5 +1,4 @@
 pub mod Symbols
 pub mod Arithmetic
-pub mod Doublings
-pub mod Tables
-pub mod Answers
+pub mod Values
+pub mod Working

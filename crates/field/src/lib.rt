@@ -4,7 +4,7 @@ pub mod tables;
 ghost use mathlib.Core.Path.{_≡_};
 ghost use Rattle.refusal.specs.Refusal.{first};
 ghost use Rattle.field.specs.Symbols.{plus, times, over};
-ghost use Rattle.field.specs.Answers.{checks, Answers};
+ghost use Rattle.field.specs.Values.{checks, Gives};
 
 // What an arithmetic call answers: the symbol, or the number of the refusal.
 pub enum Value {
@@ -30,7 +30,7 @@ fn first_refusal(degree: u32, a: u8, b: u8) -> u8
 
 // The sum of two symbols; refusals 1 and 7.
 pub fn sum(degree: u32, a: u8, b: u8) -> Value
-    ensures { λ r. ⌜ Answers (checks degree a b) (plus a b) r ⌝ }
+    ensures { λ r. ⌜ Gives (checks degree a b) (plus a b) r ⌝ }
 {
     let k = first_refusal(degree, a, b);
     if k != 0 {
@@ -41,7 +41,7 @@ pub fn sum(degree: u32, a: u8, b: u8) -> Value
 
 // The product of two symbols; refusals 1 and 7.
 pub fn product(degree: u32, a: u8, b: u8) -> Value
-    ensures { λ r. ⌜ Answers (checks degree a b) (times degree a b) r ⌝ }
+    ensures { λ r. ⌜ Gives (checks degree a b) (times degree a b) r ⌝ }
 {
     let k = first_refusal(degree, a, b);
     if k != 0 {
@@ -53,7 +53,7 @@ pub fn product(degree: u32, a: u8, b: u8) -> Value
 
 // The quotient of two symbols, 0 where the second is zero; refusals 1 and 7.
 pub fn quotient(degree: u32, a: u8, b: u8) -> Value
-    ensures { λ r. ⌜ Answers (checks degree a b) (over degree a b) r ⌝ }
+    ensures { λ r. ⌜ Gives (checks degree a b) (over degree a b) r ⌝ }
 {
     let k = first_refusal(degree, a, b);
     if k != 0 {

@@ -4,11 +4,11 @@
 // alone. A function that names a table has it copied to its stack: the outermost function calls `lend` once, and lends what it got.
 ghost use mathlib.Core.Path.{_≡_};
 ghost use mathlib.Core.Bool.{false};
-ghost use Prim.Native.Nat.{_+_, _-_, _%_, _^_, _<_};
+ghost use Prim.Native.Nat.{_%_, _^_, _<_};
 ghost use Rattle.refusal.specs.Refusal.{badDegree};
 ghost use Rattle.field.specs.Symbols.{modulus, times, over};
-ghost use Rattle.field.specs.Doublings.{doublings};
-ghost use Rattle.field.specs.Tables.{power, IsTable, Exponent};
+ghost use Rattle.field.specs.Working.Doublings.{doublings};
+ghost use Rattle.field.specs.Working.Tables.{power, IsTable, Exponent, Raising, Powering, Dividing};
 
 // How long a lent table is, whichever the field.
 const LENT: usize = 766;
@@ -868,10 +868,7 @@ pub fn size(degree: u32) -> usize
 
 // The exponent of a symbol that is not zero, as a power of x.
 fn exponent_from(table: &Table, degree: u32, a: u8) -> usize
-    requires { ⌜ badDegree degree ≡ false ⌝ }
-    requires { ⌜ IsTable degree (now table) ⌝ }
-    requires { ⌜ a < 2 ^ degree ⌝ }
-    requires { ⌜ (a ≡ 0 → ⊥) ⌝ }
+    requires { ⌜ Raising degree (now table) a ⌝ }
     ensures { λ r. ⌜ Exponent degree a r ⌝ }
 {
     wide(table[wide(a)])
@@ -879,9 +876,7 @@ fn exponent_from(table: &Table, degree: u32, a: u8) -> usize
 
 // A power of x, within the two rounds that a table has.
 fn power_from(table: &Table, degree: u32, i: usize) -> u8
-    requires { ⌜ badDegree degree ≡ false ⌝ }
-    requires { ⌜ IsTable degree (now table) ⌝ }
-    requires { ⌜ i < (2 ^ degree - 1) + (2 ^ degree - 1) ⌝ }
+    requires { ⌜ Powering degree (now table) i ⌝ }
     ensures { λ r. ⌜ r ≡ power degree i ⌝ }
 {
     table[size(degree) + i]
@@ -907,10 +902,7 @@ pub fn product_from(table: &Table, degree: u32, a: u8, b: u8) -> u8
 
 // For the crates above: the quotient of a symbol by one that is not zero, from a lent table.
 pub fn quotient_from(table: &Table, degree: u32, a: u8, b: u8) -> u8
-    requires { ⌜ badDegree degree ≡ false ⌝ }
-    requires { ⌜ IsTable degree (now table) ⌝ }
-    requires { ⌜ (a < 2 ^ degree) × (b < 2 ^ degree) ⌝ }
-    requires { ⌜ (b ≡ 0 → ⊥) ⌝ }
+    requires { ⌜ Dividing degree (now table) a b ⌝ }
     ensures { λ r. ⌜ r ≡ over degree a b ⌝ }
 {
     if a == 0 {

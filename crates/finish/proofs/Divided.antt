@@ -16,10 +16,10 @@ use Rattle.patch.proofs.Parts.{laid-front}
 use Rattle.field.specs.Arithmetic.{gf}
 use Rattle.poly.specs.Poly.{value, valuesAt}
 use Rattle.poly.proofs.Values.{length-values}
-use Rattle.mark.specs.Code.{Code, columns, total, IsArray, jointLimit}
-use Rattle.mark.proofs.Proper.{Proper}
-use Rattle.mark.proofs.Passed.{Counts}
-use Rattle.mark.proofs.Limits.{Room, joint-room}
+use Rattle.codes.specs.Code.{Code, columns, total, IsArray, jointLimit}
+use Rattle.codes.proofs.Proper.{Proper}
+use Rattle.codes.proofs.Passed.{Counts}
+use Rattle.codes.proofs.Limits.{Room, joint-room}
 use Rattle.ending.specs.Endings.{Buffers}
 use Rattle.ending.specs.declared.Ending.the-variants.{Corrected, Hollow}
 use Rattle.ending.proofs.WrongColumns.{rootAt, rootFlags, rootCount}

@@ -15,18 +15,18 @@ use native.Mathlib.Omega.{arith}
 use lib.ListN.{length, getD, take, drop, length-append, length-map}
 use lib.Seq.{drop-drop, length-take-le, take-take}
 use Rattle.patch.specs.Parts.{lay}
-use Rattle.patch.proofs.Parts.{laid-front, behind}
+use Rattle.patch.proofs.Parts.{laid-front, lay-behind}
 use Rattle.field.specs.Symbols.{IsSymbol}
 use Rattle.field.specs.Arithmetic.{gf}
 use Rattle.field.proofs.Laws.{Field}
 use Rattle.poly.proofs.Forms.{reduce, newtonValue}
 use Rattle.poly.proofs.Differences.{length-reduce, last-round}
-use Rattle.mark.specs.Code.{largest, total}
-use Rattle.mark.specs.Lost.{right}
-use Rattle.rows.specs.Rows.{Points}
-use Rattle.mark.proofs.Parts.{all-take, row-length, rest-length}
-use Rattle.mark.proofs.Limits.{Room, room-largest}
-use Rattle.mark.proofs.Right.{all-right, distinct-right}
+use Rattle.codes.specs.Code.{largest, total}
+use Rattle.codes.specs.Lost.{right}
+use Rattle.rows.specs.Working.Rows.{Points}
+use Rattle.codes.proofs.Parts.{all-take, row-length, rest-length}
+use Rattle.codes.proofs.Limits.{Room, room-largest}
+use Rattle.codes.proofs.Right.{all-right, distinct-right}
 use Rattle.ending.proofs.Model.{filledRow, filledIn, filledRows}
 use Rattle.finish.specs.Working.{zerosIn, put, refilled}
 use Rattle.conditions.proofs.Places.{RowAt, next, row-left, row-size}
@@ -131,7 +131,7 @@ module _ (d : ℕ) where
         let count : length row ≡ n = filled-count k fs xs (take n (drop at y)) e (row-size n ks p h y array) in
         let room : at + length (row ++ rest) ≤ length t =
         omega (arith, ap length whole, rows-length (drop l ks) (drop at y) (row-left n ks p y array), p .array) in
-        rw (← drop-drop n at y, whole) (behind at row rest t count is room)
+        rw (← drop-drop n at y, whole) (lay-behind at row rest t count is room)
 
 -- columns are wrong where the mark is zero and the flag is not
 module _ (xs ms fs : List ℕ) (is : fs ≡ zerosIn ms) (size : length ms ≡ length xs) where

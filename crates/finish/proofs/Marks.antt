@@ -25,9 +25,9 @@ use borrow.Author.Tests.{ne-eqb}
 use Rattle.patch.specs.Parts.{lay}
 use Rattle.patch.proofs.Parts.{lay-cons}
 use Rattle.poly.proofs.Roots.{Mem, Distinct}
-use Rattle.mark.specs.Code.{total, flag, flagsFrom}
-use Rattle.mark.specs.Lost.{right}
-use Rattle.mark.proofs.Right.{rank}
+use Rattle.codes.specs.Code.{total, flag, flagsFrom}
+use Rattle.codes.specs.Lost.{right}
+use Rattle.codes.proofs.Right.{rank}
 use Rattle.finish.specs.Working.{flagOf, zerosIn, put}
 use Rattle.conditions.proofs.Places.{next}
 

@@ -11,9 +11,9 @@ use Prim.Native.Nat.{ℕ, zero, suc, _*_}
 use lib.ListN.{length, take}
 use Rattle.field.specs.Arithmetic.{gf}
 use Rattle.poly.proofs.Forms.{reduce, newtonValue}
-use Rattle.mark.specs.Code.{Code, rows, columns}
+use Rattle.codes.specs.Code.{Code, rows, columns}
 use Rattle.ending.specs.Endings.{Buffers}
-use Rattle.mark.specs.Lost.{right}
+use Rattle.codes.specs.Lost.{right}
 use Rattle.ending.specs.declared.Ending.{Ending}
 use Rattle.ending.specs.declared.Ending.the-variants.{Refused, Corrected, Nothing, Several, Hollow}
 

@@ -7,14 +7,13 @@ ghost use lib.ListN.{length, take};
 ghost use Rattle.patch.specs.Parts.{lay};
 ghost use Rattle.refusal.specs.Refusal.{badDegree};
 ghost use Rattle.field.specs.Symbols.{IsSymbol};
-ghost use Rattle.field.specs.Tables.{IsTable};
+ghost use Rattle.field.specs.Working.Tables.{IsTable};
 ghost use Rattle.poly.specs.Poly.{All};
-ghost use Rattle.rows.specs.Rows.{Points, Inverses};
-ghost use Rattle.mark.specs.Code.{IsArray, codeOf, jointLimit, largest, rows, total};
-ghost use Rattle.mark.specs.Lost.{right};
-ghost use Rattle.mark.proofs.Passed.{Counts};
-ghost use Rattle.mark.proofs.Proper.{Proper};
-ghost use Rattle.mark.proofs.Limits.{Room};
+ghost use Rattle.rows.specs.Working.Rows.{Points, Inverses};
+ghost use Rattle.codes.specs.Code.{codeOf, jointLimit, largest, rows, total};
+ghost use Rattle.codes.specs.Lost.{right};
+ghost use Rattle.codes.proofs.Limits.{Room};
+ghost use Rattle.ending.specs.Working.{Ready, mostCells};
 ghost use Rattle.ending.specs.Endings.{Buffers};
 ghost use Rattle.ending.proofs.WrongColumns.{rootCount};
 ghost use Rattle.ending.proofs.Model.{filled, divided};
@@ -47,15 +46,15 @@ pub fn flag_zeros(values: &[u8], flags: &mut [u8]) -> usize
     count
 }
 
-// For the crates above: the entries of a row at the columns whose mark is zero, at the front of s; answers how many there are.
-pub fn gather(marks: &[u8], row: &[u8], s: &mut [u8]) -> usize
-    requires { ⌜ (length (now row) ≡ length (now marks)) × (length (now marks) ≤ length (now s)) ⌝ }
-    ensures { λ r. ⌜ (r ≡ length (right (now (marks .entry)) (now (row .entry)))) × (now (s .exit) ≡ lay 0 (right (now (marks .entry)) (now (row .entry))) (now (s .entry))) ⌝ }
+// For the crates above: the entries of a row at the columns whose flag is zero, at the front of s; answers how many there are.
+pub fn gather(flags: &[u8], row: &[u8], s: &mut [u8]) -> usize
+    requires { ⌜ (length (now row) ≡ length (now flags)) × (length (now flags) ≤ length (now s)) ⌝ }
+    ensures { λ r. ⌜ (r ≡ length (right (now (flags .entry)) (now (row .entry)))) × (now (s .exit) ≡ lay 0 (right (now (flags .entry)) (now (row .entry))) (now (s .entry))) ⌝ }
 {
     let mut j = 0;
     let mut i = 0;
-    while i < marks.len() {
-        if marks[i] == 0 {
+    while i < flags.len() {
+        if flags[i] == 0 {
             s[j] = row[i];
             j += 1;
         }
@@ -125,8 +124,8 @@ fn fill_rows(
     received: &[u8],
     s: &mut [u8],
 )
-    requires { ⌜ Counts (codeOf degree (now points) (now lengths)) × Proper (codeOf degree (now points) (now lengths)) ⌝ }
-    requires { ⌜ IsArray (codeOf degree (now points) (now lengths)) (now received) × IsTable degree (now table) × (length (now s) ≡ 384) ⌝ }
+    requires { ⌜ Ready (codeOf degree (now points) (now lengths)) (now received) ⌝ }
+    requires { ⌜ IsTable degree (now table) × (length (now s) ≡ mostCells) ⌝ }
     requires { ⌜ (now flags ≡ zerosIn (now marks)) × (length (now marks) ≡ length (now points)) × Room (length (now points)) (total (now flags)) (now lengths) ⌝ }
     requires { ⌜ (now good ≡ right (now flags) (now points)) × (now wrong ≡ right (now marks) (now points))
         × Inverses degree (take (largest (now lengths)) (now good)) (largest (now lengths)) (now ws) ⌝ }
@@ -166,8 +165,8 @@ fn fill_wrong(
     received: &[u8],
     s: &mut [u8],
 )
-    requires { ⌜ Counts (codeOf degree (now points) (now lengths)) × Proper (codeOf degree (now points) (now lengths)) ⌝ }
-    requires { ⌜ IsArray (codeOf degree (now points) (now lengths)) (now received) × IsTable degree (now table) × (length (now s) ≡ 384) ⌝ }
+    requires { ⌜ Ready (codeOf degree (now points) (now lengths)) (now received) ⌝ }
+    requires { ⌜ IsTable degree (now table) × (length (now s) ≡ mostCells) ⌝ }
     requires { ⌜ (now flags ≡ zerosIn (now marks)) × (length (now marks) ≡ length (now points)) × Room (length (now points)) (total (now flags)) (now lengths) ⌝ }
     requires { ⌜ (now good ≡ right (now flags) (now points)) × (now wrong ≡ right (now marks) (now points)) ⌝ }
     ensures { λ _. ⌜ now (s .exit) ≡ lay 0 (filled (codeOf degree (now (points .entry)) (now (lengths .entry))) (now (received .entry)) (now (flags .entry))) (now (s .entry)) ⌝ }
@@ -202,8 +201,8 @@ pub fn fill(
     received: &[u8],
     s: &mut [u8],
 )
-    requires { ⌜ Counts (codeOf degree (now points) (now lengths)) × Proper (codeOf degree (now points) (now lengths)) ⌝ }
-    requires { ⌜ IsArray (codeOf degree (now points) (now lengths)) (now received) × IsTable degree (now table) × (length (now s) ≡ 384) ⌝ }
+    requires { ⌜ Ready (codeOf degree (now points) (now lengths)) (now received) ⌝ }
+    requires { ⌜ IsTable degree (now table) × (length (now s) ≡ mostCells) ⌝ }
     requires { ⌜ (now flags ≡ zerosIn (now marks)) × (length (now marks) ≡ length (now points)) × Room (length (now points)) (total (now flags)) (now lengths) ⌝ }
     ensures { λ _. ⌜ now (s .exit) ≡ lay 0 (filled (codeOf degree (now (points .entry)) (now (lengths .entry))) (now (received .entry)) (now (flags .entry))) (now (s .entry)) ⌝ }
 {
@@ -237,10 +236,10 @@ pub fn divide(
     array: &mut [u8],
     flags: &mut [u8],
 ) -> Ending
-    requires { ⌜ Counts (codeOf degree (now points) (now lengths)) × Proper (codeOf degree (now points) (now lengths)) ⌝ }
-    requires { ⌜ IsArray (codeOf degree (now points) (now lengths)) (now received) × IsTable degree (now table) ⌝ }
+    requires { ⌜ Ready (codeOf degree (now points) (now lengths)) (now received) ⌝ }
+    requires { ⌜ IsTable degree (now table) ⌝ }
     requires { ⌜ All (IsSymbol degree) (now locator) × (0 < length (now locator)) × (length (now locator) ≤ suc (jointLimit (codeOf degree (now points) (now lengths)))) ⌝ }
-    requires { ⌜ (length (now array) ≡ 384) × (length (now flags) ≡ 96) ⌝ }
+    requires { ⌜ (length (now array) ≡ mostCells) × (length (now flags) ≡ 96) ⌝ }
     ensures { λ r. ⌜ ((lent : Buffers) (t : ℕ) → length (now (locator .entry)) ≡ suc t
         → divided (codeOf degree (now (points .entry)) (now (lengths .entry))) (now (received .entry)) lent t (now (locator .entry))
         (ℕ-discrete (rootCount (codeOf degree (now (points .entry)) (now (lengths .entry))) (now (locator .entry))) t)

@@ -1,17 +1,19 @@
 -- No two outcomes satisfy the promise of a C function: the number and what stands in the buffers afterwards are fixed by what the
 -- call is given.
 --
---   answers-unique    where no two ends of the call keep its promise, neither do two numbers
+--   returns-unique    where no two ends of the call keep its promise, neither do two numbers
 --   mark-encode, mark-read, mark-decode, ring-encode, ring-read, ring-decode, mark-decode-lost, ring-decode-lost    so of each function
 -- Assumes nothing.
 use mathlib.Core.Path.{_≡_, sym, ap, _∙_}
 use mathlib.Core.List.{List}
 use Prim.Native.Nat.{ℕ}
-use Rattle.mark.specs.Code.{Code}
-use Rattle.mark.specs.Promises.{numberOf, left, Left, Encodes, Reads}
+use Rattle.refusal.specs.Meaning.{Meaning, packed}
+use Rattle.codes.specs.Code.{Code}
+use Rattle.mark.specs.Promises.{meaning, left, Left, Encodes, Reads}
 use Rattle.mark.specs.declared.Outcome.{Outcome}
+use Rattle.mark.proofs.Promised.{meaning-faithful}
 use Rattle.mark.proofs.Demand2.{encodes-unique, reads-unique}
-use Rattle.ending.specs.Endings.{packed, Buffers}
+use Rattle.ending.specs.Endings.{meaning as endingMeaning, Buffers}
 use Rattle.ending.specs.declared.Ending.{Ending}
 use Rattle.joint.specs.Promises as joint
 use Rattle.joint.proofs.Unique as joint-unique
@@ -21,30 +23,30 @@ use Rattle.ring.specs.Promises as rings
 use Rattle.ring.proofs.Unique as ring-unique
 use Rattle.ring.specs.Lost as ring-lost
 use Rattle.ring.proofs.Lost as ring-losing
-use Rattle.firmware.specs.Answers.{Answers}
+use Rattle.firmware.specs.Returns.{Returns}
 
-module _ {E B : Type 0} (number : E → ℕ) (Keeps : E → B → Type 0)
+module _ {E B : Type 0} (means : E → Meaning) (Keeps : E → B → Type 0)
     (unique : (e e′ : E) (b b′ : B) → Keeps e b → Keeps e′ b′ → (e ≡ e′) × (b ≡ b′)) where
-  pub answers-unique : {r r′ : ℕ} {b b′ : B} → Answers number (λ (e : E). Keeps e b) r → Answers number (λ (e : E). Keeps e b′) r′
+  pub returns-unique : {r r′ : ℕ} {b b′ : B} → Returns means (λ (e : E). Keeps e b) r → Returns means (λ (e : E). Keeps e b′) r′
       → (r ≡ r′) × (b ≡ b′)
-  answers-unique {r} {r′} {b} {b′} (e, is, h) (e′, is′, h′) =
-      let same = unique e e′ b b′ h h′ in (is ∙ ap number (same .0) ∙ sym is′, same .1)
+  returns-unique {r} {r′} {b} {b′} (e, is, h) (e′, is′, h′) =
+      let same = unique e e′ b b′ h h′ in (is ∙ ap (λ (e : E). packed (means e)) (same .0) ∙ sym is′, same .1)
 
 -- the outcome and the result buffer of an encoding or a reading
 parts : {o o′ : Outcome} {b b′ : List ℕ} → left o b ≡ left o′ b′ → (o ≡ o′) × (b ≡ b′)
-parts e = (ap (λ (x : Left). x .outcome) e, ap (λ (x : Left). x .buffer) e)
+parts {o} {o′} e = (meaning-faithful o o′ (ap (λ (x : Left). x .outcome) e), ap (λ (x : Left). x .buffer) e)
 
 pub mark-encode : (c : Code) (m lent : List ℕ) {r r′ : ℕ} {b b′ : List ℕ}
-    → Answers numberOf (λ (o : Outcome). Encodes c m lent (left o b)) r
-    → Answers numberOf (λ (o : Outcome). Encodes c m lent (left o b′)) r′ → (r ≡ r′) × (b ≡ b′)
+    → Returns meaning (λ (o : Outcome). Encodes c m lent (left o b)) r
+    → Returns meaning (λ (o : Outcome). Encodes c m lent (left o b′)) r′ → (r ≡ r′) × (b ≡ b′)
 mark-encode c m lent =
-    answers-unique numberOf (λ (o : Outcome) (b : List ℕ). Encodes c m lent (left o b))
+    returns-unique meaning (λ (o : Outcome) (b : List ℕ). Encodes c m lent (left o b))
     (λ o o′ b b′ h h′. parts (encodes-unique c m lent (left o b) (left o′ b′) h h′))
 
-pub mark-read : (c : Code) (a lent : List ℕ) {r r′ : ℕ} {b b′ : List ℕ} → Answers numberOf (λ (o : Outcome). Reads c a lent (left o b)) r
-    → Answers numberOf (λ (o : Outcome). Reads c a lent (left o b′)) r′ → (r ≡ r′) × (b ≡ b′)
+pub mark-read : (c : Code) (a lent : List ℕ) {r r′ : ℕ} {b b′ : List ℕ} → Returns meaning (λ (o : Outcome). Reads c a lent (left o b)) r
+    → Returns meaning (λ (o : Outcome). Reads c a lent (left o b′)) r′ → (r ≡ r′) × (b ≡ b′)
 mark-read c a lent =
-    answers-unique numberOf (λ (o : Outcome) (b : List ℕ). Reads c a lent (left o b))
+    returns-unique meaning (λ (o : Outcome) (b : List ℕ). Reads c a lent (left o b))
     (λ o o′ b b′ h h′. parts (reads-unique c a lent (left o b) (left o′ b′) h h′))
 
 -- what a decoding leaves in the buffers lent to it
@@ -57,42 +59,42 @@ ended e b = joint.left e (b .0) (b .1)
 ended-parts : {e e′ : Ending} {b b′ : Kept} → ended e b ≡ ended e′ b′ → (e ≡ e′) × (b ≡ b′)
 ended-parts p = (ap (λ (x : joint.Left). x .ending) p, ap (λ (x : joint.Left). (x .buffers, x .space)) p)
 
-pub mark-decode : (g : joint.Given) {r r′ : ℕ} {b b′ : Kept} → Answers packed (λ (e : Ending). joint.Decodes g (ended e b)) r
-    → Answers packed (λ (e : Ending). joint.Decodes g (ended e b′)) r′ → (r ≡ r′) × (b ≡ b′)
+pub mark-decode : (g : joint.Given) {r r′ : ℕ} {b b′ : Kept} → Returns endingMeaning (λ (e : Ending). joint.Decodes g (ended e b)) r
+    → Returns endingMeaning (λ (e : Ending). joint.Decodes g (ended e b′)) r′ → (r ≡ r′) × (b ≡ b′)
 mark-decode g =
-    answers-unique packed (λ (e : Ending) (b : Kept). joint.Decodes g (ended e b))
+    returns-unique endingMeaning (λ (e : Ending) (b : Kept). joint.Decodes g (ended e b))
     (λ e e′ b b′ h h′. ended-parts (joint-unique.unique g (ended e b) (ended e′ b′) h h′))
 
 pub ring-encode : (q m : ℕ) (f lent : List ℕ) {r r′ : ℕ} {b b′ : List ℕ}
-    → Answers numberOf (λ (o : Outcome). rings.Encodes q m f lent (left o b)) r
-    → Answers numberOf (λ (o : Outcome). rings.Encodes q m f lent (left o b′)) r′ → (r ≡ r′) × (b ≡ b′)
+    → Returns meaning (λ (o : Outcome). rings.Encodes q m f lent (left o b)) r
+    → Returns meaning (λ (o : Outcome). rings.Encodes q m f lent (left o b′)) r′ → (r ≡ r′) × (b ≡ b′)
 ring-encode q m f lent =
-    answers-unique numberOf (λ (o : Outcome) (b : List ℕ). rings.Encodes q m f lent (left o b))
-    (λ o o′ b b′ h h′. parts (ring-unique.encodes-unique q m f lent h h′))
+    returns-unique meaning (λ (o : Outcome) (b : List ℕ). rings.Encodes q m f lent (left o b))
+    (λ o o′ b b′ h h′. parts (ring-unique.encodes-unique q m f lent (left o b) (left o′ b′) h h′))
 
 pub ring-read : (q m : ℕ) (w lent : List ℕ) {r r′ : ℕ} {b b′ : List ℕ}
-    → Answers numberOf (λ (o : Outcome). rings.Reads q m w lent (left o b)) r
-    → Answers numberOf (λ (o : Outcome). rings.Reads q m w lent (left o b′)) r′ → (r ≡ r′) × (b ≡ b′)
+    → Returns meaning (λ (o : Outcome). rings.Reads q m w lent (left o b)) r
+    → Returns meaning (λ (o : Outcome). rings.Reads q m w lent (left o b′)) r′ → (r ≡ r′) × (b ≡ b′)
 ring-read q m w lent =
-    answers-unique numberOf (λ (o : Outcome) (b : List ℕ). rings.Reads q m w lent (left o b))
-    (λ o o′ b b′ h h′. parts (ring-unique.reads-unique q m w lent h h′))
+    returns-unique meaning (λ (o : Outcome) (b : List ℕ). rings.Reads q m w lent (left o b))
+    (λ o o′ b b′ h h′. parts (ring-unique.reads-unique q m w lent (left o b) (left o′ b′) h h′))
 
-pub ring-decode : (g : rings.Given) {r r′ : ℕ} {b b′ : Kept} → Answers packed (λ (e : Ending). rings.Decodes g (ended e b)) r
-    → Answers packed (λ (e : Ending). rings.Decodes g (ended e b′)) r′ → (r ≡ r′) × (b ≡ b′)
+pub ring-decode : (g : rings.Given) {r r′ : ℕ} {b b′ : Kept} → Returns endingMeaning (λ (e : Ending). rings.Decodes g (ended e b)) r
+    → Returns endingMeaning (λ (e : Ending). rings.Decodes g (ended e b′)) r′ → (r ≡ r′) × (b ≡ b′)
 ring-decode g =
-    answers-unique packed (λ (e : Ending) (b : Kept). rings.Decodes g (ended e b))
-    (λ e e′ b b′ h h′. ended-parts (ring-unique.decodes-unique g h h′))
+    returns-unique endingMeaning (λ (e : Ending) (b : Kept). rings.Decodes g (ended e b))
+    (λ e e′ b b′ h h′. ended-parts (ring-unique.decodes-unique g (ended e b) (ended e′ b′) h h′))
 
 pub mark-decode-lost : (L : List ℕ) (g : joint.Given) {r r′ : ℕ} {b b′ : Kept}
-    → Answers packed (λ (e : Ending). joint-lost.DecodesLost L g (ended e b)) r
-    → Answers packed (λ (e : Ending). joint-lost.DecodesLost L g (ended e b′)) r′ → (r ≡ r′) × (b ≡ b′)
+    → Returns endingMeaning (λ (e : Ending). joint-lost.DecodesLost L g (ended e b)) r
+    → Returns endingMeaning (λ (e : Ending). joint-lost.DecodesLost L g (ended e b′)) r′ → (r ≡ r′) × (b ≡ b′)
 mark-decode-lost L g =
-    answers-unique packed (λ (e : Ending) (b : Kept). joint-lost.DecodesLost L g (ended e b))
+    returns-unique endingMeaning (λ (e : Ending) (b : Kept). joint-lost.DecodesLost L g (ended e b))
     (λ e e′ b b′ h h′. ended-parts (joint-losing.unique L g (ended e b) (ended e′ b′) h h′))
 
 pub ring-decode-lost : (L : List ℕ) (g : rings.Given) {r r′ : ℕ} {b b′ : Kept}
-    → Answers packed (λ (e : Ending). ring-lost.DecodesLost L g (ended e b)) r
-    → Answers packed (λ (e : Ending). ring-lost.DecodesLost L g (ended e b′)) r′ → (r ≡ r′) × (b ≡ b′)
+    → Returns endingMeaning (λ (e : Ending). ring-lost.DecodesLost L g (ended e b)) r
+    → Returns endingMeaning (λ (e : Ending). ring-lost.DecodesLost L g (ended e b′)) r′ → (r ≡ r′) × (b ≡ b′)
 ring-decode-lost L g =
-    answers-unique packed (λ (e : Ending) (b : Kept). ring-lost.DecodesLost L g (ended e b))
+    returns-unique endingMeaning (λ (e : Ending) (b : Kept). ring-lost.DecodesLost L g (ended e b))
     (λ e e′ b b′ h h′. ended-parts (ring-losing.unique L g (ended e b) (ended e′ b′) h h′))

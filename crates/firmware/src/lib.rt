@@ -1,9 +1,10 @@
 // The C interface: the calls on marks and rings, with their answers as one number. include/grenhyrna.h is for its callers.
 ghost use mathlib.Core.Path.{_≡_};
-ghost use Rattle.firmware.specs.Answers.{Answers};
-ghost use Rattle.mark.specs.Code.{codeOf};
-ghost use Rattle.mark.specs.Promises.{numberOf, Encodes, Reads, left};
-ghost use Rattle.ending.specs.Endings.{packed};
+ghost use Rattle.refusal.specs.Meaning.{packed};
+ghost use Rattle.firmware.specs.Returns.{Returns};
+ghost use Rattle.codes.specs.Code.{codeOf};
+ghost use Rattle.mark.specs.Promises.{Encodes, Reads, left, meaning};
+ghost use Rattle.ending.specs.Endings.{meaning as endingMeaning};
 ghost use Rattle.joint.specs.Promises.{Decodes, buffers, given, left as ended};
 ghost use Rattle.joint.specs.Lost.{DecodesLost};
 ghost use Rattle.ring.specs.Promises as rings;
@@ -13,7 +14,7 @@ use mark::Outcome;
 
 // The number of an outcome: 256, or the number of the refusal.
 fn number(outcome: Outcome) -> u32
-    ensures { λ r. ⌜ r ≡ numberOf outcome ⌝ }
+    ensures { λ r. ⌜ r ≡ packed (meaning outcome) ⌝ }
 {
     match outcome {
         Outcome::Done => 256,
@@ -23,7 +24,7 @@ fn number(outcome: Outcome) -> u32
 
 // The number of an ending: 256 times its code, and its detail.
 fn pack(ending: Ending) -> u32
-    ensures { λ r. ⌜ r ≡ packed ending ⌝ }
+    ensures { λ r. ⌜ r ≡ packed (endingMeaning ending) ⌝ }
 {
     match ending {
         Ending::Refused(k) => k as u32,
@@ -43,7 +44,8 @@ pub extern "C" fn gren_mark_encode(
     message: &[u8],
     array: &mut [u8],
 ) -> u32
-    ensures { λ r. ⌜ Answers numberOf (λ o. Encodes (codeOf degree (now (points .entry)) (now (lengths .entry))) (now (message .entry)) (now (array .entry)) (left o (now (array .exit)))) r ⌝ }
+    ensures { λ r. ⌜ Returns meaning (λ o. Encodes (codeOf degree (now (points .entry)) (now (lengths .entry))) (now (message .entry))
+        (now (array .entry)) (left o (now (array .exit)))) r ⌝ }
 {
     number(mark::encode(degree, lengths, points, message, array))
 }
@@ -57,7 +59,8 @@ pub extern "C" fn gren_mark_read(
     array: &[u8],
     message: &mut [u8],
 ) -> u32
-    ensures { λ r. ⌜ Answers numberOf (λ o. Reads (codeOf degree (now (points .entry)) (now (lengths .entry))) (now (array .entry)) (now (message .entry)) (left o (now (message .exit)))) r ⌝ }
+    ensures { λ r. ⌜ Returns meaning (λ o. Reads (codeOf degree (now (points .entry)) (now (lengths .entry))) (now (array .entry))
+        (now (message .entry)) (left o (now (message .exit)))) r ⌝ }
 {
     number(mark::read(degree, lengths, points, array, message))
 }
@@ -74,8 +77,9 @@ pub extern "C" fn gren_mark_decode(
     flags: &mut [u8],
     space: &mut [u8],
 ) -> u32
-    ensures { λ r. ⌜ Answers packed (λ e. Decodes
-        (given (codeOf degree (now (points .entry)) (now (lengths .entry))) limit (now (received .entry)) (buffers (now (answer .entry)) (now (flags .entry))) (now (space .entry)))
+    ensures { λ r. ⌜ Returns endingMeaning (λ e. Decodes
+        (given (codeOf degree (now (points .entry)) (now (lengths .entry))) limit (now (received .entry))
+        (buffers (now (answer .entry)) (now (flags .entry))) (now (space .entry)))
         (ended e (buffers (now (answer .exit)) (now (flags .exit))) (now (space .exit)))) r ⌝ }
 {
     pack(joint::decode(
@@ -103,8 +107,9 @@ pub extern "C" fn gren_mark_decode_lost(
     flags: &mut [u8],
     space: &mut [u8],
 ) -> u32
-    ensures { λ r. ⌜ Answers packed (λ e. DecodesLost (now (lost .entry))
-        (given (codeOf degree (now (points .entry)) (now (lengths .entry))) limit (now (received .entry)) (buffers (now (answer .entry)) (now (flags .entry))) (now (space .entry)))
+    ensures { λ r. ⌜ Returns endingMeaning (λ e. DecodesLost (now (lost .entry))
+        (given (codeOf degree (now (points .entry)) (now (lengths .entry))) limit (now (received .entry))
+        (buffers (now (answer .entry)) (now (flags .entry))) (now (space .entry)))
         (ended e (buffers (now (answer .exit)) (now (flags .exit))) (now (space .exit)))) r ⌝ }
 {
     pack(joint::decode_lost(
@@ -123,7 +128,7 @@ pub extern "C" fn gren_mark_decode_lost(
 // Writes the word of H(m) of a message.
 #[no_mangle]
 pub extern "C" fn gren_ring_encode(q: u32, m: u32, message: &[u8], word: &mut [u8]) -> u32
-    ensures { λ r. ⌜ Answers numberOf (λ o. rings.Encodes q m (now (message .entry)) (now (word .entry)) (left o (now (word .exit)))) r ⌝ }
+    ensures { λ r. ⌜ Returns meaning (λ o. rings.Encodes q m (now (message .entry)) (now (word .entry)) (left o (now (word .exit)))) r ⌝ }
 {
     number(ring::encode(q, m, message, word))
 }
@@ -131,7 +136,7 @@ pub extern "C" fn gren_ring_encode(q: u32, m: u32, message: &[u8], word: &mut [u
 // Writes the message of a word of H(m).
 #[no_mangle]
 pub extern "C" fn gren_ring_read(q: u32, m: u32, word: &[u8], message: &mut [u8]) -> u32
-    ensures { λ r. ⌜ Answers numberOf (λ o. rings.Reads q m (now (word .entry)) (now (message .entry)) (left o (now (message .exit)))) r ⌝ }
+    ensures { λ r. ⌜ Returns meaning (λ o. rings.Reads q m (now (word .entry)) (now (message .entry)) (left o (now (message .exit)))) r ⌝ }
 {
     number(ring::read(q, m, word, message))
 }
@@ -147,7 +152,7 @@ pub extern "C" fn gren_ring_decode(
     flags: &mut [u8],
     space: &mut [u8],
 ) -> u32
-    ensures { λ r. ⌜ Answers packed (λ e. rings.Decodes
+    ensures { λ r. ⌜ Returns endingMeaning (λ e. rings.Decodes
         (rings.given q m limit (now (received .entry)) (buffers (now (answer .entry)) (now (flags .entry))) (now (space .entry)))
         (ended e (buffers (now (answer .exit)) (now (flags .exit))) (now (space .exit)))) r ⌝ }
 {
@@ -166,7 +171,7 @@ pub extern "C" fn gren_ring_decode_lost(
     flags: &mut [u8],
     space: &mut [u8],
 ) -> u32
-    ensures { λ r. ⌜ Answers packed (λ e. ring-lost.DecodesLost (now (lost .entry))
+    ensures { λ r. ⌜ Returns endingMeaning (λ e. ring-lost.DecodesLost (now (lost .entry))
         (rings.given q m limit (now (received .entry)) (buffers (now (answer .entry)) (now (flags .entry))) (now (space .entry)))
         (ended e (buffers (now (answer .exit)) (now (flags .exit))) (now (space .exit)))) r ⌝ }
 {

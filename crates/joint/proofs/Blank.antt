@@ -12,7 +12,7 @@ use lib.ListN.{length, take, drop, replicate, length-replicate, getD-replicate}
 use lib.Seq.{ext-getD, length-take-le, take-all}
 use Rattle.patch.specs.Patch.{patch}
 use Rattle.patch.proofs.Laws.{length-patch, front-at}
-use Rattle.mark.specs.Checks.{spaceBytes}
+use Rattle.codes.specs.Checks.{spaceBytes}
 use Rattle.joint.specs.Promises.{cleared}
 use Rattle.joint.specs.Working.{Blank}
 

@@ -22,16 +22,15 @@ use Rattle.patch.specs.Parts.{part}
 use Rattle.field.specs.Symbols.{IsSymbol}
 use Rattle.field.specs.Arithmetic.{gf}
 use Rattle.poly.specs.Poly.{All, Poly}
-use Rattle.mark.specs.Code.{Code, rows, columns, IsArray, jointLimit}
-use Rattle.mark.proofs.Proper.{Proper}
-use Rattle.mark.proofs.Passed.{Counts}
-use Rattle.mark.proofs.Limits.{joint-less}
-use Rattle.basis.proofs.Lines.{Line, least, another, size, locatorOf}
-use Rattle.basis.proofs.Lists.{all-right}
-use Rattle.basis.proofs.Cut.{cut-poly}
-use Rattle.basis.proofs.LeastSize.{least-found}
-use Rattle.solver.specs.Held.{blank, Holds}
-use Rattle.solver.specs.Solver.{RowsAre}
+use Rattle.codes.specs.Code.{Code, rows, columns, IsArray, jointLimit}
+use Rattle.codes.proofs.Proper.{Proper}
+use Rattle.codes.proofs.Passed.{Counts}
+use Rattle.codes.proofs.Limits.{joint-less}
+use Rattle.basis.proofs.Lines.{Line, least, another, size, locatorOf, cut-poly}
+use Rattle.basis.proofs.Scan.{all-right}
+use Rattle.basis.proofs.Solved.{least-found}
+use Rattle.solver.specs.Working.Held.{blank, HoldsLines}
+use Rattle.solver.specs.Working.Solver.{RowsAre}
 use Rattle.solver.proofs.Scanned.{line-some, line-none}
 use Rattle.solver.proofs.Reading.{locator-held}
 use Rattle.ending.specs.Endings.{Buffers}
@@ -121,7 +120,7 @@ pub record Solved (c : Code) (y : List ℕ) (τ C : ℕ) (leads space : List ℕ
   pub limit : τ ≤ jointLimit c
   pub few : C ≤ 380
   pub room : 3840 ≤ length space
-  pub held : Holds (c .degree) C (suc (rows c)) C leads space (linesOf c y)
+  pub held : HoldsLines (c .degree) C (suc (rows c)) C leads space (linesOf c y)
   pub scanned : getElem? (linesOf c y) r ≡ least (linesOf c y)
 
 module _ {c : Code} {y : List ℕ} {τ C : ℕ} {leads space : List ℕ} {r : ℕ} (q : Solved c y τ C leads space r) where

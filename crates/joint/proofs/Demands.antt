@@ -23,46 +23,26 @@ use mathlib.Core.List.{List}
 use Prim.Native.Nat.{ℕ, _-_, _≤_, _<_}
 use native.Mathlib.Omega.{arith}
 use lib.ListN.{getD}
-use Rattle.refusal.specs.Refusal.{Check, first}
-use Rattle.mark.specs.Code.{CodeArray, flagsOf, wrongCount, safeLimit}
-use Rattle.mark.specs.Checks.{spaceBytes, decodeChecks}
-use Rattle.mark.proofs.Passed.{PassedDecoding, decoding}
-use Rattle.mark.proofs.Limits.{joint-less}
-use Rattle.ending.specs.Endings.{Buffers, detailOf, packed, Ends}
+use Rattle.refusal.specs.Refusal.{first}
+use Rattle.refusal.specs.Meaning.{detailOf, packed}
+use Rattle.refusal.proofs.Ladders.{first-upto}
+use Rattle.codes.specs.Code.{CodeArray, flagsOf, wrongCount, safeLimit}
+use Rattle.codes.specs.Near.{Nearest, Near, Far}
+use Rattle.codes.specs.Checks.{spaceBytes}
+use Rattle.codes.proofs.Passed.{PassedDecoding, decoding}
+use Rattle.codes.proofs.Limits.{joint-less}
+use Rattle.ending.specs.Endings.{Buffers, meaning, Ends}
 use Rattle.ending.specs.declared.Ending.{Ending}
 use Rattle.ending.specs.declared.Ending.the-variants.{Refused, Corrected, Nothing, Several, Hollow}
 use Rattle.ending.proofs.Demands as endings
-use Rattle.joint.specs.Promises.{Given, Left, Decodes}
-use Rattle.joint.proofs.Promised.{firstOf, keeps}
+use Rattle.ending.proofs.Unique.{meaning-faithful}
+use Rattle.joint.specs.Promises.{Given, Left, Decodes, checksOf}
 use Rattle.joint.proofs.Halves as halves
 
-pub packed-faithful : (e e′ : Ending) → detailOf e < 256 → detailOf e′ < 256 → packed e ≡ packed e′ → e ≡ e′
+pub packed-faithful : (e e′ : Ending) → detailOf (meaning e) < 256 → detailOf (meaning e′) < 256
+    → packed (meaning e) ≡ packed (meaning e′) → e ≡ e′
 unfolding packed
-packed-faithful (Refused k) (Refused k′) s s′ p = ap Refused (omega arith)
-packed-faithful (Refused k) (Corrected w) s s′ p = absurd (omega arith)
-packed-faithful (Refused k) Nothing s s′ p = absurd (omega arith)
-packed-faithful (Refused k) (Several t) s s′ p = absurd (omega arith)
-packed-faithful (Refused k) (Hollow t) s s′ p = absurd (omega arith)
-packed-faithful (Corrected w) (Refused k) s s′ p = absurd (omega arith)
-packed-faithful (Corrected w) (Corrected w′) s s′ p = ap Corrected (omega arith)
-packed-faithful (Corrected w) Nothing s s′ p = absurd (omega arith)
-packed-faithful (Corrected w) (Several t) s s′ p = absurd (omega arith)
-packed-faithful (Corrected w) (Hollow t) s s′ p = absurd (omega arith)
-packed-faithful Nothing (Refused k) s s′ p = absurd (omega arith)
-packed-faithful Nothing (Corrected w) s s′ p = absurd (omega arith)
-packed-faithful Nothing Nothing s s′ p = refl
-packed-faithful Nothing (Several t) s s′ p = absurd (omega arith)
-packed-faithful Nothing (Hollow t) s s′ p = absurd (omega arith)
-packed-faithful (Several t) (Refused k) s s′ p = absurd (omega arith)
-packed-faithful (Several t) (Corrected w) s s′ p = absurd (omega arith)
-packed-faithful (Several t) Nothing s s′ p = absurd (omega arith)
-packed-faithful (Several t) (Several t′) s s′ p = ap Several (omega arith)
-packed-faithful (Several t) (Hollow t′) s s′ p = absurd (omega arith)
-packed-faithful (Hollow t) (Refused k) s s′ p = absurd (omega arith)
-packed-faithful (Hollow t) (Corrected w) s s′ p = absurd (omega arith)
-packed-faithful (Hollow t) Nothing s s′ p = absurd (omega arith)
-packed-faithful (Hollow t) (Several t′) s s′ p = absurd (omega arith)
-packed-faithful (Hollow t) (Hollow t′) s s′ p = ap Hollow (omega arith)
+packed-faithful e e′ s s′ p = meaning-faithful e e′ (omega arith) (omega arith)
 
 module _ (g : Given) (l : Left) (h : Decodes g l) where
   abbrev IsRefused : Type 0
@@ -71,29 +51,26 @@ module _ (g : Given) (l : Left) (h : Decodes g l) where
   abbrev IsCorrected : Type 0
   IsCorrected = halves.IsCorrected l
 
-  abbrev checks : List Check
-  checks = decodeChecks (g .code) (g .limit) (g .received) (g .lent .array) (g .lent .flags) (g .space)
-
   abbrev EndsAs : Ending → Buffers → Type 0
   EndsAs = Ends (g .code) (g .received) (g .limit) (g .lent)
 
-  passed : 0 ≡ firstOf g → PassedDecoding (g .code) (g .limit) (g .received) (g .lent .array) (g .lent .flags) (g .space)
+  passed : 0 ≡ first (checksOf g) → PassedDecoding (g .code) (g .limit) (g .received) (g .lent .array) (g .lent .flags) (g .space)
   passed e = decoding (g .code) (g .limit) (g .received) (g .lent .array) (g .lent .flags) (g .space) e
 
   never : (k : ℕ) (b : Buffers) → ¬ EndsAs (Refused k) b
   never k b d = d
 
-  number-upto : firstOf g ≤ 8
-  number-upto = halves.first-upto 8 checks
+  number-upto : first (checksOf g) ≤ 8
+  number-upto = first-upto 8 (checksOf g)
       (omega arith, (omega arith, (omega arith, (omega arith, (omega arith, (omega arith, (omega arith, (omega arith, tt))))))))
 
-  pub refused-exactly : IsRefused ↔ ¬ (firstOf g ≡ 0)
-  refused-exactly = halves.refused-exactly checks (g .lent) (g .space) EndsAs never l (keeps g l h)
+  pub refused-exactly : IsRefused ↔ ¬ (first (checksOf g) ≡ 0)
+  refused-exactly = halves.refused-exactly (checksOf g) (g .lent) (g .space) EndsAs never l h
 
   pub refused-leaves : (k : ℕ) → l .ending ≡ Refused k
-      → (k ≡ firstOf g) × (1 ≤ k) × (k ≤ 8) × (l .buffers ≡ g .lent) × (l .space ≡ g .space)
+      → (k ≡ first (checksOf g)) × (1 ≤ k) × (k ≤ 8) × (l .buffers ≡ g .lent) × (l .space ≡ g .space)
   refused-leaves k e =
-      let (first, some, b, s) = halves.refused-leaves checks (g .lent) (g .space) EndsAs never l (keeps g l h) k e in
+      let (first, some, b, s) = halves.refused-leaves (checksOf g) (g .lent) (g .space) EndsAs never l h k e in
       (first, some, omega (arith, number-upto), b, s)
 
   others : (e : Ending) (b : Buffers) → EndsAs e b → ((w : ℕ) → ¬ (e ≡ Corrected w)) → b ≡ g .lent
@@ -104,44 +81,44 @@ module _ (g : Given) (l : Left) (h : Decodes g l) where
   others (Hollow t) b d n = d .2
 
   pub as-lent : ¬ IsCorrected → l .buffers ≡ g .lent
-  as-lent = halves.as-lent checks (g .lent) (g .space) EndsAs never l (keeps g l h) others
+  as-lent = halves.as-lent (checksOf g) (g .lent) (g .space) EndsAs never l h others
 
   pub space-cleared : ¬ IsRefused
       → ((i : ℕ) → i < spaceBytes → getD (l .space) i 0 ≡ 0) × ((i : ℕ) → spaceBytes ≤ i → getD (l .space) i 0 ≡ getD (g .space) i 0)
-  space-cleared = halves.space-cleared checks (g .lent) (g .space) EndsAs never l (keeps g l h)
+  space-cleared = halves.space-cleared (checksOf g) (g .lent) (g .space) EndsAs never l h
 
-  ended-as : (e : Ending) → l .ending ≡ e → ((k : ℕ) → ¬ (e ≡ Refused k)) → (0 ≡ firstOf g) × EndsAs e (l .buffers)
-  ended-as = halves.ended-as checks (g .lent) (g .space) EndsAs never l (keeps g l h)
+  ended-as : (e : Ending) → l .ending ≡ e → ((k : ℕ) → ¬ (e ≡ Refused k)) → (0 ≡ first (checksOf g)) × EndsAs e (l .buffers)
+  ended-as = halves.ended-as (checksOf g) (g .lent) (g .space) EndsAs never l h
 
   pub corrected-nearest : (w : ℕ) → l .ending ≡ Corrected w
-      → endings.Nearest (g .code) (g .received) (g .limit) w (l .buffers .array)
+      → Nearest (CodeArray (g .code)) (wrongCount (g .code) (g .received)) (g .limit) w (l .buffers .array)
       × (l .buffers .flags ≡ flagsOf (g .code) (g .received) (l .buffers .array))
   corrected-nearest w q =
       let (p, d) = ended-as (Corrected w) q (λ k e. let z : _≡_ {A = ℕ} 0 1 = cc in omega arith) in
       (endings.corrected-means (passed p .proper) (passed p .received) (g .limit) (passed p .limit) w (g .lent) (l .buffers) d, d .flags)
 
-  pub none-far : l .ending ≡ Nothing → (a : List ℕ) → CodeArray (g .code) a → g .limit < wrongCount (g .code) (g .received) a
+  pub none-far : l .ending ≡ Nothing → Far (CodeArray (g .code)) (wrongCount (g .code) (g .received)) (g .limit)
   none-far q a i =
       let (p, d) = ended-as Nothing q (λ k e. let z : _≡_ {A = ℕ} 0 1 = cc in omega arith) in
       endings.none-means (passed p .proper) (passed p .received) (g .limit) (g .lent) (l .buffers) d a i
 
   module _ (safe : g .limit ≤ safeLimit (g .code)) (not : ¬ IsRefused) where
-    ended : (0 ≡ firstOf g) × EndsAs (l .ending) (l .buffers)
+    ended : (0 ≡ first (checksOf g)) × EndsAs (l .ending) (l .buffers)
     ended = ended-as (l .ending) refl (λ k e. not (k, e))
 
-    pub safe-exactly : IsCorrected ↔ endings.Near (g .code) (g .received) (g .limit)
+    pub safe-exactly : IsCorrected ↔ Near (CodeArray (g .code)) (wrongCount (g .code) (g .received)) (g .limit)
     safe-exactly =
         let q = passed (ended .0) in
         endings.safe-exactly (q .proper) (q .received) (g .limit) safe (l .ending) (g .lent) (l .buffers) (ended .1)
 
     -- 'At the safe limit or below, any ending but "corrected" and "refused" means that no code array is within τ columns.'
-    pub safe-otherwise : ¬ IsCorrected → (a : List ℕ) → CodeArray (g .code) a → g .limit < wrongCount (g .code) (g .received) a
+    pub safe-otherwise : ¬ IsCorrected → Far (CodeArray (g .code)) (wrongCount (g .code) (g .received)) (g .limit)
     safe-otherwise n a i =
         let q = passed (ended .0) in
         endings.safe-otherwise (q .proper) (q .received) (g .limit) safe (l .ending) (g .lent) (l .buffers) (ended .1) (λ w e. n (w, e)) a i
 
   small-by : PassedDecoding (g .code) (g .limit) (g .received) (g .lent .array) (g .lent .flags) (g .space)
-      → (e : Ending) → EndsAs e (l .buffers) → detailOf e < 256
+      → (e : Ending) → EndsAs e (l .buffers) → detailOf (meaning e) < 256
   small-by q (Refused k) d = absurd d
   small-by q (Corrected w) d =
       omega (
@@ -156,7 +133,7 @@ module _ (g : Given) (l : Left) (h : Decodes g l) where
   small-by q (Several t) d = omega (arith, d .0 .within, q .limit, joint-less (q .proper) (q .counts), q .counts .most-columns)
   small-by q (Hollow t) d = omega (arith, d .0 .within, q .limit, joint-less (q .proper) (q .counts), q .counts .most-columns)
 
-  pub detail-small : detailOf (l .ending) < 256
-  detail-small = halves.by-number checks (g .lent) (g .space) EndsAs never l (keeps g l h)
+  pub detail-small : detailOf (meaning (l .ending)) < 256
+  detail-small = halves.by-number (checksOf g) (g .lent) (g .space) EndsAs never l h
       (λ p d. small-by (passed p) (l .ending) (d .0))
-      (λ j p d. let e = ap (λ (r : Left). detailOf (r .ending)) d in omega (arith, number-upto))
+      (λ j p d. let e = ap (λ (r : Left). detailOf (meaning (r .ending))) d in omega (arith, number-upto))

@@ -1,6 +1,5 @@
 -- 'Nothing by halves', once for every decoding: E says how one that is not refused ends, and cs are its checks.
 --
---   first-upto          the first number is no larger than the largest
 --   by-number           what the promise says, by the number of the first check that applies
 --   refused-exactly     it is refused exactly when a check applies
 --   refused-leaves      then its number is that of the first that does, and buffers and working space are as lent
@@ -10,37 +9,24 @@
 -- Assumes nothing.
 use mathlib.Core.Path.{_≡_, sym, ap, _∙_, subst}
 use mathlib.Core.Logic.{_↔_}
-use mathlib.Core.Bool.{true, false}
-use mathlib.Core.List.{List, [], _∷_, _++_}
+use mathlib.Core.List.{List, _++_}
 use Prim.Native.Nat.{ℕ, suc, _+_, _-_, _≤_, _<_}
 use native.Mathlib.Omega.{arith}
 use lib.ListN.{length, getD, drop, replicate, length-replicate, getD-replicate, List·getD-append}
 use lib.Seq.{getD-append-add, getD-drop}
-use Rattle.refusal.specs.Refusal.{Check, _when_, first}
-use Rattle.refusal.specs.Keeping.{Keeps}
+use Rattle.refusal.specs.Refusal.{Check, first}
 use Rattle.refusal.proofs.Keeping.{told}
-use Rattle.mark.specs.Checks.{spaceBytes}
+use Rattle.codes.specs.Checks.{spaceBytes}
 use Rattle.ending.specs.Endings.{Buffers}
 use Rattle.ending.specs.declared.Ending.{Ending}
 use Rattle.ending.specs.declared.Ending.the-variants.{Refused, Corrected}
-use Rattle.joint.specs.Promises.{Left, left, cleared}
+use Rattle.joint.specs.Promises.{Left, left, cleared, Decoding}
 
 abbrev pub IsRefused : Left → Type 0
 IsRefused l = (k : ℕ) × (l .ending ≡ Refused k)
 
 abbrev pub IsCorrected : Left → Type 0
 IsCorrected l = (w : ℕ) × (l .ending ≡ Corrected w)
-
--- the numbers of checks are at most m
-abbrev pub Upto : ℕ → List Check → Type 0
-Upto m [] = Unit {0}
-Upto m ((k when b) ∷ cs) = (k ≤ m) × Upto m cs
-
-pub first-upto : (m : ℕ) (cs : List Check) → Upto m cs → first cs ≤ m
-unfolding first
-first-upto m [] u = omega arith
-first-upto m ((k when true) ∷ cs) u = u .0
-first-upto m ((k when false) ∷ cs) u = first-upto m cs (u .1)
 
 -- zeros before the rest of a list
 module _ (n : ℕ) (w : List ℕ) where
@@ -60,14 +46,10 @@ module _ (n : ℕ) (w : List ℕ) where
       ∙ ap (λ (j : ℕ). getD w j 0) e′
 
 module _ (cs : List Check) (lent : Buffers) (space : List ℕ) (E : Ending → Buffers → Type 0) where
-  -- the promise
-  abbrev pub Ended : Left → Type 0
+  abbrev Ended : Left → Type 0
   Ended l = E (l .ending) (l .buffers) × (l .space ≡ cleared space)
 
-  abbrev pub Halves : Left → Type 0
-  Halves l = Keeps cs (λ k. left (Refused k) lent space) Ended l
-
-  module _ (never : (k : ℕ) (b : Buffers) → ¬ E (Refused k) b) (l : Left) (h : Halves l) where
+  module _ (never : (k : ℕ) (b : Buffers) → ¬ E (Refused k) b) (l : Left) (h : Decoding cs lent space E l) where
     pub by-number : {P : Type 0} → (0 ≡ first cs → Ended l → P)
         → ((k : ℕ) → suc k ≡ first cs → l ≡ left (Refused (suc k)) lent space → P) → P
     by-number = told cs (λ k. left (Refused k) lent space) Ended l h

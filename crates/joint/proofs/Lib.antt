@@ -3,7 +3,6 @@ pub mod Blank
 pub mod Lost
 pub mod Halves
 pub mod Promised
-pub mod LostPromised
 pub mod Unique
 pub mod Demands
 pub mod LostDemands

@@ -20,18 +20,18 @@ use native.Mathlib.Omega.{arith}
 use lib.ListN.{length, getD, replicate, length-replicate, getD-replicate}
 use lib.Seq.{ext-getD}
 use Rattle.refusal.specs.Refusal.{isIn}
-use Rattle.mark.specs.Code.{Code, rows, columns, total, IsArray, encoded, flag, flagsFrom, flagsOf, wrongCount, differsAt}
-use Rattle.mark.specs.Lost.{lostFlags, right, core, coreOf, wrongAmong, twosAt, flagsLost}
-use Rattle.mark.specs.Checks.{spaceBytes}
-use Rattle.mark.proofs.Parts.{all-map}
-use Rattle.mark.proofs.Passed.{PassedDecoding}
-use Rattle.mark.proofs.Proper.{Proper}
-use Rattle.mark.proofs.Limits.{Room, joint-room}
-use Rattle.mark.proofs.Flags.{flags-length, flag-here, flag-right}
-use Rattle.mark.proofs.Columns.{agree-exactly, Agree}
-use Rattle.mark.proofs.Messages.{encoded-array, one-message}
-use Rattle.mark.proofs.Right.{rank, rank-below, core-differs}
-use Rattle.mark.proofs.Lost.{lost-length, core-few, core-proper, core-counts, core-array, encoded-core, full-message, core-none, core-of-none, Remains}
+use Rattle.codes.specs.Code.{Code, rows, columns, total, IsArray, encoded, flag, flagsFrom, flagsOf, wrongCount, differsAt}
+use Rattle.codes.specs.Lost.{lostFlags, right, core, coreOf, wrongAmong, twosAt, flagsLost}
+use Rattle.codes.specs.Checks.{spaceBytes}
+use Rattle.codes.proofs.Parts.{all-map}
+use Rattle.codes.proofs.Passed.{PassedDecoding}
+use Rattle.codes.proofs.Proper.{Proper}
+use Rattle.codes.proofs.Limits.{Room, joint-room}
+use Rattle.codes.proofs.Flags.{flags-length, flag-here, flag-right}
+use Rattle.codes.proofs.Columns.{agree-exactly, Agree}
+use Rattle.codes.proofs.Messages.{encoded-array, one-message}
+use Rattle.codes.proofs.Right.{rank, rank-below, core-differs}
+use Rattle.codes.proofs.Lost.{lost-length, core-few, core-proper, core-counts, core-array, encoded-core, full-message, core-none, core-of-none, Remains}
 use Rattle.ending.specs.Endings.{Buffers, Corrects, Ends}
 use Rattle.ending.specs.declared.Ending.{Ending}
 use Rattle.ending.specs.declared.Ending.the-variants.{Refused, Corrected, Nothing, Several, Hollow}
@@ -45,10 +45,10 @@ use Rattle.remaining.specs.Working.{merged, toFill}
 use Rattle.remaining.proofs.Fronts.{merged-count, fill-count}
 use Rattle.joint.specs.Promises.{buffers}
 use Rattle.joint.specs.Lost.{LostCorrects, LostEnds}
-use Rattle.joint.specs.Working.{Ready}
+use Rattle.joint.specs.Working.{ReadyLost}
 
 -- what is left passes the checks of decoding, with buffers of its own
-pub rest-passed : {c : Code} {τ : ℕ} {L y : List ℕ} → Ready c τ L y → (a f w : List ℕ)
+pub rest-passed : {c : Code} {τ : ℕ} {L y : List ℕ} → ReadyLost c τ L y → (a f w : List ℕ)
     → length a ≡ rows c * columns (core c L) → length f ≡ columns (core c L) → spaceBytes ≤ length w
     → PassedDecoding (core c L) τ (coreOf c L y) a f w
 rest-passed {c} {τ} {L} r a f w answer flags space = record {

@@ -26,38 +26,28 @@ use Prim.Native.Nat.{ℕ, _≤_, _<_}
 use native.Mathlib.Decide.{decLe}
 use native.Mathlib.Omega.{arith}
 use lib.ListN.{length, getD}
-use Rattle.refusal.specs.Refusal.{Check, first, isIn, someOutsideField}
-use Rattle.refusal.proofs.Keeping as keeping
-use Rattle.mark.specs.Code.{Code, columns, CodeArray, flag, flagsOf, wrongCount, differsAt, safeLimit, jointLimit}
-use Rattle.mark.specs.Lost.{lostFlags, core, coreOf, wrongAmong}
-use Rattle.mark.specs.Checks.{spaceBytes, decodeChecks}
-use Rattle.mark.proofs.Proper.{Proper}
-use Rattle.mark.proofs.Limits.{joint-less}
-use Rattle.mark.proofs.Flags.{flags-length, flag-here}
-use Rattle.mark.proofs.Messages.{code-array}
-use Rattle.mark.proofs.Lost.{lost-length, core-proper, core-counts, core-array, encoded-core, code-core, full-code, core-code, full-message, PassedLost, lost-passed, none-remaining}
-use Rattle.ending.specs.Endings.{Buffers, detailOf, Ends}
+use Rattle.refusal.specs.Refusal.{first, isIn, someOutsideField}
+use Rattle.refusal.specs.Meaning.{detailOf}
+use Rattle.refusal.proofs.Ladders.{first-upto}
+use Rattle.codes.specs.Code.{Code, columns, CodeArray, flag, flagsOf, wrongCount, differsAt, safeLimit, jointLimit}
+use Rattle.codes.specs.Lost.{lostFlags, core, coreOf, wrongAmong}
+use Rattle.codes.specs.Near.{Nearest, Near, Far}
+use Rattle.codes.specs.Checks.{spaceBytes}
+use Rattle.codes.proofs.Proper.{Proper}
+use Rattle.codes.proofs.Limits.{joint-less}
+use Rattle.codes.proofs.Flags.{flags-length, flag-here}
+use Rattle.codes.proofs.Messages.{code-array}
+use Rattle.codes.proofs.Lost.{lost-length, core-proper, core-counts, core-array, encoded-core, code-core, full-code, core-code, full-message, PassedLost, lost-passed, none-remaining}
+use Rattle.ending.specs.Endings.{Buffers, meaning, Ends}
 use Rattle.ending.specs.declared.Ending.{Ending}
 use Rattle.ending.specs.declared.Ending.the-variants.{Refused, Corrected, Nothing, Several, Hollow}
 use Rattle.ending.proofs.Demands as endings
-use Rattle.joint.specs.Promises.{Given, given, Left, left, Decodes}
-use Rattle.joint.specs.Lost.{LostCorrects, LostEnds, DecodesLost}
-use Rattle.joint.proofs.Promised.{firstOf, keeps, kept}
-use Rattle.joint.proofs.LostPromised.{checksOf}
+use Rattle.joint.specs.Promises.{Given, given, Left, Decodes, checksOf}
+use Rattle.joint.specs.Lost.{LostCorrects, LostEnds, checksLost, DecodesLost}
+use Rattle.joint.proofs.Promised as promised
 use Rattle.joint.proofs.Halves as halves
-use Rattle.joint.proofs.Halves.{IsRefused, IsCorrected, first-upto}
+use Rattle.joint.proofs.Halves.{IsRefused, IsCorrected}
 use Rattle.joint.proofs.Lost.{ends-unique, same-rest, none-ends, wrong-rest, twos-left, twos-lost}
-
--- a is a code array that differs from y in exactly w ≤ τ of the remaining columns, every other one in more than w
-pub record Nearest (c : Code) (L y : List ℕ) (τ w : ℕ) (a : List ℕ) : Type 0 where
-  pub code : CodeArray c a
-  pub wrong : wrongAmong c L y a ≡ w
-  pub within : w ≤ τ
-  pub others : (b : List ℕ) → CodeArray c b → ¬ (b ≡ a) → w < wrongAmong c L y b
-
--- some code array is within τ of the remaining columns
-abbrev pub Near : Code → List ℕ → List ℕ → ℕ → Type 0
-Near c L y τ = (a : List ℕ) × CodeArray c a × (wrongAmong c L y a ≤ τ)
 
 abbrev EndsAs : List ℕ → Given → Ending → Buffers → Type 0
 EndsAs L g e b = LostEnds (g .code) L (g .received) (g .limit) (g .lent) e b
@@ -73,89 +63,71 @@ others L g (Several t) b h n = h .2
 others L g (Hollow t) b h n = h .2
 
 module _ (L : List ℕ) (g : Given) where
-  passed : 0 ≡ first (checksOf L g) → PassedLost (g .code) (g .limit) L (g .received) (g .lent .array) (g .lent .flags) (g .space)
+  passed : 0 ≡ first (checksLost L g) → PassedLost (g .code) (g .limit) L (g .received) (g .lent .array) (g .lent .flags) (g .space)
   passed = lost-passed (g .code) (g .limit) L (g .received) (g .lent .array) (g .lent .flags) (g .space)
 
   pub unique : (l l′ : Left) → DecodesLost L g l → DecodesLost L g l′ → l ≡ l′
-  unique = keeping.unique (checksOf L g) (λ k. left (Refused k) (g .lent) (g .space))
-      (halves.Ended (checksOf L g) (g .lent) (g .space) (EndsAs L g))
-      (λ e l l′ h h′.
-      let q = passed e in
-      let same = ends-unique (g .code) L (q .array .proper) (q .remain) (q .array .received) (g .lent) (l .ending) (l′ .ending) (l .buffers)
-      (l′ .buffers) (h .0) (h′ .0) in
-      λ i. record { ending = same .0 i; buffers = same .1 i; space = (h .1 ∙ sym (h′ .1)) i })
+  unique = promised.unique (checksLost L g) (g .lent) (g .space) (EndsAs L g)
+      (λ none e e′ b b′. let q = passed none in
+      ends-unique (g .code) L (q .array .proper) (q .remain) (q .array .received) (g .lent) e e′ b b′)
 
-  number-upto : first (checksOf L g) ≤ 17
-  number-upto = first-upto 17 (checksOf L g)
+  number-upto : first (checksLost L g) ≤ 17
+  number-upto = first-upto 17 (checksLost L g)
       (omega arith, (omega arith, (omega arith, (omega arith, (omega arith, (omega arith, (omega arith, (omega arith, (omega arith, (omega arith, tt))))))))))
 
 -- 'Received symbols in lost columns have no influence, but must lie in the field.'
 module _ (L : List ℕ) (c : Code) (τ : ℕ) (lent : Buffers) (space y y′ : List ℕ) (sized : length y ≡ length y′)
     (in-field : someOutsideField (c .degree) y ≡ someOutsideField (c .degree) y′) (rest : coreOf c L y ≡ coreOf c L y′) where
-  same-checks : first (checksOf L (given c τ y lent space)) ≡ first (checksOf L (given c τ y′ lent space))
+  same-checks : first (checksLost L (given c τ y lent space)) ≡ first (checksLost L (given c τ y′ lent space))
   same-checks = rw (sized, in-field)
 
   pub no-influence : (l : Left) → DecodesLost L (given c τ y lent space) l → DecodesLost L (given c τ y′ lent space) l
-  no-influence = keeping.same-keeps (checksOf L (given c τ y lent space)) (checksOf L (given c τ y′ lent space))
-      (λ k. left (Refused k) lent space)
-      (halves.Ended (checksOf L (given c τ y lent space)) lent space (EndsAs L (given c τ y lent space)))
-      (halves.Ended (checksOf L (given c τ y′ lent space)) lent space (EndsAs L (given c τ y′ lent space)))
-      same-checks
-      (λ e l h.
-      let p = passed L (given c τ y lent space) e in
-      let p′ = passed L (given c τ y′ lent space) (e ∙ same-checks) in
-      (same-rest c L (p .array .proper) (p .array .received) (p′ .array .received) rest τ lent (l .ending) (l .buffers) (h .0), h .1))
+  no-influence = promised.same-decoding (checksLost L (given c τ y lent space)) lent space (checksLost L (given c τ y′ lent space))
+      (EndsAs L (given c τ y lent space)) (EndsAs L (given c τ y′ lent space)) same-checks
+      (λ none e b h.
+      let p = passed L (given c τ y lent space) none in
+      let p′ = passed L (given c τ y′ lent space) (none ∙ same-checks) in
+      same-rest c L (p .array .proper) (p .array .received) (p′ .array .received) rest τ lent e b h)
 
 -- 'nothing lost'
-abbrev whole : Given → List Check
-whole g = decodeChecks (g .code) (g .limit) (g .received) (g .lent .array) (g .lent .flags) (g .space)
-
 module _ (g : Given) where
-  abbrev Lost : Left → Type 0
-  Lost = halves.Ended (checksOf [] g) (g .lent) (g .space) (EndsAs [] g)
-
-  abbrev Whole : Left → Type 0
-  Whole = halves.Ended (whole g) (g .lent) (g .space) (Ends (g .code) (g .received) (g .limit) (g .lent))
-
-  pub none-checks : first (checksOf [] g) ≡ firstOf g
+  pub none-checks : first (checksLost [] g) ≡ first (checksOf g)
   none-checks = none-remaining (g .code) (g .limit) (g .received) (g .lent .array) (g .lent .flags) (g .space)
+
+  abbrev Whole : Ending → Buffers → Type 0
+  Whole = Ends (g .code) (g .received) (g .limit) (g .lent)
+
+  same-ends : 0 ≡ first (checksLost [] g) → (e : Ending) (b : Buffers) → EndsAs [] g e b ↔ Whole e b
+  same-ends none e b = none-ends (g .code) (passed [] g none .array .received) (g .limit) (g .lent) b e
 
   pub nothing-lost : (l : Left) → DecodesLost [] g l ↔ Decodes g l
   nothing-lost l = (
-    λ h. kept g l (keeping.same-keeps (checksOf [] g) (whole g) (λ k. left (Refused k) (g .lent) (g .space)) Lost Whole none-checks
-        (λ e l h. (
-          none-ends (g .code) (passed [] g e .array .received) (g .limit) (g .lent) (l .buffers) (l .ending) .0
-              (h .0),
-          h .1,
-        )) l h),
-    λ h. keeping.same-keeps (whole g) (checksOf [] g) (λ k. left (Refused k) (g .lent) (g .space)) Whole Lost (sym none-checks)
-        (λ e l h. (
-          none-ends (g .code) (passed [] g (e ∙ sym none-checks) .array .received) (g .limit) (g .lent) (l .buffers) (l .ending) .1
-              (h .0),
-          h .1,
-        )) l (keeps g l h),
+    promised.same-decoding (checksLost [] g) (g .lent) (g .space) (checksOf g) (EndsAs [] g) Whole none-checks
+        (λ none e b. same-ends none e b .0) l,
+    promised.same-decoding (checksOf g) (g .lent) (g .space) (checksLost [] g) Whole (EndsAs [] g) (sym none-checks)
+        (λ none e b. same-ends (none ∙ sym none-checks) e b .1) l,
   )
 
 pub none-decodes : (L : List ℕ) (g : Given) (l : Left) → [] ≡ L → Decodes g l → DecodesLost L g l
 none-decodes L g l none h = subst (λ (L : List ℕ). DecodesLost L g l) none (nothing-lost g l .1 h)
 
 module _ (L : List ℕ) (g : Given) (l : Left) (h : DecodesLost L g l) where
-  pub refused-exactly : IsRefused l ↔ ¬ (first (checksOf L g) ≡ 0)
-  refused-exactly = halves.refused-exactly (checksOf L g) (g .lent) (g .space) (EndsAs L g) (never L g) l h
+  pub refused-exactly : IsRefused l ↔ ¬ (first (checksLost L g) ≡ 0)
+  refused-exactly = halves.refused-exactly (checksLost L g) (g .lent) (g .space) (EndsAs L g) (never L g) l h
 
   pub refused-leaves : (k : ℕ) → l .ending ≡ Refused k
-      → (k ≡ first (checksOf L g)) × (1 ≤ k) × (l .buffers ≡ g .lent) × (l .space ≡ g .space)
-  refused-leaves = halves.refused-leaves (checksOf L g) (g .lent) (g .space) (EndsAs L g) (never L g) l h
+      → (k ≡ first (checksLost L g)) × (1 ≤ k) × (l .buffers ≡ g .lent) × (l .space ≡ g .space)
+  refused-leaves = halves.refused-leaves (checksLost L g) (g .lent) (g .space) (EndsAs L g) (never L g) l h
 
   pub as-lent : ¬ IsCorrected l → l .buffers ≡ g .lent
-  as-lent = halves.as-lent (checksOf L g) (g .lent) (g .space) (EndsAs L g) (never L g) l h (others L g)
+  as-lent = halves.as-lent (checksLost L g) (g .lent) (g .space) (EndsAs L g) (never L g) l h (others L g)
 
   pub space-cleared : ¬ IsRefused l
       → ((i : ℕ) → i < spaceBytes → getD (l .space) i 0 ≡ 0) × ((i : ℕ) → spaceBytes ≤ i → getD (l .space) i 0 ≡ getD (g .space) i 0)
-  space-cleared = halves.space-cleared (checksOf L g) (g .lent) (g .space) (EndsAs L g) (never L g) l h
+  space-cleared = halves.space-cleared (checksLost L g) (g .lent) (g .space) (EndsAs L g) (never L g) l h
 
-  ended-as : (e : Ending) → l .ending ≡ e → ((k : ℕ) → ¬ (e ≡ Refused k)) → (0 ≡ first (checksOf L g)) × EndsAs L g e (l .buffers)
-  ended-as = halves.ended-as (checksOf L g) (g .lent) (g .space) (EndsAs L g) (never L g) l h
+  ended-as : (e : Ending) → l .ending ≡ e → ((k : ℕ) → ¬ (e ≡ Refused k)) → (0 ≡ first (checksLost L g)) × EndsAs L g e (l .buffers)
+  ended-as = halves.ended-as (checksLost L g) (g .lent) (g .space) (EndsAs L g) (never L g) l h
 
   abbrev c : Code
   c = g .code
@@ -163,7 +135,7 @@ module _ (L : List ℕ) (g : Given) (l : Left) (h : DecodesLost L g l) where
   abbrev y : List ℕ
   y = g .received
 
-  corrected : (w : ℕ) → l .ending ≡ Corrected w → (0 ≡ first (checksOf L g)) × LostCorrects c L y (g .limit) w (l .buffers)
+  corrected : (w : ℕ) → l .ending ≡ Corrected w → (0 ≡ first (checksLost L g)) × LostCorrects c L y (g .limit) w (l .buffers)
   corrected w q = ended-as (Corrected w) q (λ k e. let z : _≡_ {A = ℕ} 0 1 = cc in omega arith)
 
   -- how far a code array is, over the remaining columns
@@ -171,7 +143,7 @@ module _ (L : List ℕ) (g : Given) (l : Left) (h : DecodesLost L g l) where
       → wrongCount (core c L) (coreOf c L y) (coreOf c L a) ≡ wrongAmong c L y a
   among p i = wrong-rest c L (p .array .received) (code-array (p .array .proper) i)
 
-  pub corrected-nearest : (w : ℕ) → l .ending ≡ Corrected w → Nearest c L y (g .limit) w (l .buffers .array)
+  pub corrected-nearest : (w : ℕ) → l .ending ≡ Corrected w → Nearest (CodeArray c) (wrongAmong c L y) (g .limit) w (l .buffers .array)
   corrected-nearest w q =
       let (e, d) = corrected w q in
       let p = passed L g e in
@@ -213,7 +185,7 @@ module _ (L : List ℕ) (g : Given) (l : Left) (h : DecodesLost L g l) where
       let p = passed L g (corrected w q .0) in
       core-code c L (p .array .proper) (p .remain .enough) i (corrected-nearest w q .code) s
 
-  pub none-far : l .ending ≡ Nothing → (a : List ℕ) → CodeArray c a → g .limit < wrongAmong c L y a
+  pub none-far : l .ending ≡ Nothing → Far (CodeArray c) (wrongAmong c L y) (g .limit)
   none-far q a i =
       let (e, d) = ended-as Nothing q (λ k e. let z : _≡_ {A = ℕ} 0 1 = cc in omega arith) in
       let p = passed L g e in
@@ -231,11 +203,11 @@ module _ (L : List ℕ) (g : Given) (l : Left) (h : DecodesLost L g l) where
     rest-ends (Several t) b d = (b, d)
     rest-ends (Hollow t) b d = (b, d)
 
-    ended : (0 ≡ first (checksOf L g)) × EndsAs L g (l .ending) (l .buffers)
+    ended : (0 ≡ first (checksLost L g)) × EndsAs L g (l .ending) (l .buffers)
     ended = ended-as (l .ending) refl (λ k e. not (k, e))
 
     -- near, over the remaining columns
-    near-rest : endings.Near (core c L) (coreOf c L y) (g .limit) ↔ Near c L y (g .limit)
+    near-rest : Near (CodeArray (core c L)) (wrongCount (core c L) (coreOf c L y)) (g .limit) ↔ Near (CodeArray c) (wrongAmong c L y) (g .limit)
     near-rest =
         let p = passed L g (ended .0) in (
           λ (a, i, n).
@@ -244,7 +216,7 @@ module _ (L : List ℕ) (g : Given) (l : Left) (h : DecodesLost L g l) where
           λ (a, i, n). (coreOf c L a, code-core c L (p .array .proper) i, subst (λ (m : ℕ). m ≤ g .limit) (sym (among p i)) n),
         )
 
-    pub safe-exactly : IsCorrected l ↔ Near c L y (g .limit)
+    pub safe-exactly : IsCorrected l ↔ Near (CodeArray c) (wrongAmong c L y) (g .limit)
     safe-exactly =
         let p = passed L g (ended .0) in
         let (x, d) = rest-ends (l .ending) (l .buffers) (ended .1) in
@@ -252,7 +224,7 @@ module _ (L : List ℕ) (g : Given) (l : Left) (h : DecodesLost L g l) where
         (g .limit) safe
         (l .ending) (g .lent) x d) near-rest
 
-    pub safe-otherwise : ¬ IsCorrected l → (a : List ℕ) → CodeArray c a → g .limit < wrongAmong c L y a
+    pub safe-otherwise : ¬ IsCorrected l → Far (CodeArray c) (wrongAmong c L y) (g .limit)
     safe-otherwise n a i = go (decLe (wrongAmong c L y a) (g .limit))
       where
         go : Dec (wrongAmong c L y a ≤ g .limit) → g .limit < wrongAmong c L y a
@@ -260,14 +232,14 @@ module _ (L : List ℕ) (g : Given) (l : Left) (h : DecodesLost L g l) where
         go (no q) = omega arith
 
   small-by : PassedLost c (g .limit) L y (g .lent .array) (g .lent .flags) (g .space) → (e : Ending) (b : Buffers) → EndsAs L g e b
-      → detailOf e < 256
+      → detailOf (meaning e) < 256
   small-by p e b d =
       let q = core-proper c L (p .array .proper) (p .remain .enough) in
       let k = core-counts c L (p .array .proper) (p .remain .enough) (p .array .counts) in
       go q (joint-less q k) (k .most-columns) e d
     where
       go : Proper (core c L) → jointLimit (core c L) < columns (core c L) → columns (core c L) ≤ 96 → (e : Ending) → EndsAs L g e b
-          → detailOf e < 256
+          → detailOf (meaning e) < 256
       go q s m (Refused k) d = absurd d
       go q s m (Corrected w) d = omega
           (arith, endings.corrected-within q (core-array c L (p .array .received)) (g .limit) (d .corrects), p .remain .limit)
@@ -275,7 +247,7 @@ module _ (L : List ℕ) (g : Given) (l : Left) (h : DecodesLost L g l) where
       go q s m (Several t) d = omega (arith, d .0 .within, p .remain .limit)
       go q s m (Hollow t) d = omega (arith, d .0 .within, p .remain .limit)
 
-  pub detail-small : detailOf (l .ending) < 256
-  detail-small = halves.by-number (checksOf L g) (g .lent) (g .space) (EndsAs L g) (never L g) l h
+  pub detail-small : detailOf (meaning (l .ending)) < 256
+  detail-small = halves.by-number (checksLost L g) (g .lent) (g .space) (EndsAs L g) (never L g) l h
       (λ e d. small-by (passed L g e) (l .ending) (l .buffers) (d .0))
-      (λ j e d. let n = ap (λ (r : Left). detailOf (r .ending)) d in omega (arith, number-upto L g))
+      (λ j e d. let n = ap (λ (r : Left). detailOf (meaning (r .ending))) d in omega (arith, number-upto L g))

@@ -2,18 +2,19 @@
 --
 --   LostCorrects c L y τ w left    'corrected' with w wrong columns among the remaining ones leaves left
 --   LostEnds c L y τ lent e left   the decoding of y, not refused, ends as e and turns the buffers lent into left
+--   checksLost L g                 the checks of the decoding of g
 --   DecodesLost L g l              the decoding of g leaves l
 use mathlib.Core.Path.{_≡_}
 use mathlib.Core.List.{List}
 use Prim.Native.Nat.{ℕ}
-use Rattle.refusal.specs.Keeping.{Keeps}
-use Rattle.mark.specs.Code.{Code, encoded}
-use Rattle.mark.specs.Lost.{core, coreOf, flagsLost}
-use Rattle.mark.specs.Checks.{lostChecks}
+use Rattle.refusal.specs.Refusal.{Check}
+use Rattle.codes.specs.Code.{Code, encoded}
+use Rattle.codes.specs.Lost.{core, coreOf, flagsLost}
+use Rattle.codes.specs.Checks.{lostChecks}
 use Rattle.ending.specs.Endings.{Buffers, Corrects, Ends}
 use Rattle.ending.specs.declared.Ending.{Ending}
 use Rattle.ending.specs.declared.Ending.the-variants.{Refused, Corrected, Nothing, Several, Hollow}
-use Rattle.joint.specs.Promises.{Given, Left, left, cleared}
+use Rattle.joint.specs.Promises.{Given, Left, Decoding}
 
 -- 'On "corrected" the lost columns are filled from the rows found, their flags are 2, and the detail counts wrong columns among
 -- the rest': the rows found are those of the message m of the remaining columns
@@ -31,9 +32,8 @@ LostEnds c L y τ lent Nothing left = Ends (core c L) (coreOf c L y) τ lent Not
 LostEnds c L y τ lent (Several t) left = Ends (core c L) (coreOf c L y) τ lent (Several t) left
 LostEnds c L y τ lent (Hollow t) left = Ends (core c L) (coreOf c L y) τ lent (Hollow t) left
 
--- 'a refusal touches none'
+abbrev pub checksLost : List ℕ → Given → List Check
+checksLost L g = lostChecks (g .code) (g .limit) L (g .received) (g .lent .array) (g .lent .flags) (g .space)
+
 abbrev pub DecodesLost : List ℕ → Given → Left → Type 0
-DecodesLost L g =
-    Keeps (lostChecks (g .code) (g .limit) L (g .received) (g .lent .array) (g .lent .flags) (g .space))
-    (λ k. left (Refused k) (g .lent) (g .space))
-    (λ l. LostEnds (g .code) L (g .received) (g .limit) (g .lent) (l .ending) (l .buffers) × (l .space ≡ cleared (g .space)))
+DecodesLost L g = Decoding (checksLost L g) (g .lent) (g .space) (LostEnds (g .code) L (g .received) (g .limit) (g .lent))

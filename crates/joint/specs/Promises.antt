@@ -4,14 +4,17 @@
 --   Left              what it leaves: its ending, the buffers and the space
 --   buffers, given, left    these of their parts
 --   cleared w         a working space after a call that is not refused
+--   Decoding cs lent space E l    what every decoding promises, with its checks and its table of endings
+--   checksOf g        the checks of the decoding of g
 --   Decodes g l       the decoding of g leaves l
 use mathlib.Core.Path.{_≡_}
 use mathlib.Core.List.{List, _++_}
-use Prim.Native.Nat.{ℕ, zero, suc}
+use Prim.Native.Nat.{ℕ}
 use lib.ListN.{drop, replicate}
-use Rattle.refusal.specs.Refusal.{first}
-use Rattle.mark.specs.Code.{Code}
-use Rattle.mark.specs.Checks.{spaceBytes, decodeChecks}
+use Rattle.refusal.specs.Refusal.{Check}
+use Rattle.refusal.specs.Keeping.{Keeps}
+use Rattle.codes.specs.Code.{Code}
+use Rattle.codes.specs.Checks.{spaceBytes, decodeChecks}
 use Rattle.ending.specs.Endings.{Buffers, Ends}
 use Rattle.ending.specs.declared.Ending.{Ending}
 use Rattle.ending.specs.declared.Ending.the-variants.{Refused}
@@ -41,11 +44,13 @@ left e b w = record { ending = e; buffers = b; space = w }
 unfoldable pub cleared : List ℕ → List ℕ
 cleared w = replicate spaceBytes 0 ++ drop spaceBytes w
 
--- by the number of the first check that applies, 0 for none; 'a refusal touches none'
-abbrev pub DecodesBy : ℕ → Given → Left → Type 0
-DecodesBy zero g l = Ends (g .code) (g .received) (g .limit) (g .lent) (l .ending) (l .buffers) × (l .space ≡ cleared (g .space))
-DecodesBy (suc k) g l = l ≡ left (Refused (suc k)) (g .lent) (g .space)
+-- What every decoding promises: cs are its checks, and E its table of endings. 'a refusal touches none'
+abbrev pub Decoding : (cs : List Check) (lent : Buffers) (space : List ℕ) (E : Ending → Buffers → Type 0) → Left → Type 0
+Decoding cs lent space E =
+    Keeps cs (λ k. left (Refused k) lent space) (λ l. E (l .ending) (l .buffers) × (l .space ≡ cleared space))
+
+abbrev pub checksOf : Given → List Check
+checksOf g = decodeChecks (g .code) (g .limit) (g .received) (g .lent .array) (g .lent .flags) (g .space)
 
 abbrev pub Decodes : Given → Left → Type 0
-Decodes g l =
-    DecodesBy (first (decodeChecks (g .code) (g .limit) (g .received) (g .lent .array) (g .lent .flags) (g .space))) g l
+Decodes g = Decoding (checksOf g) (g .lent) (g .space) (Ends (g .code) (g .received) (g .limit) (g .lent))

@@ -1,24 +1,24 @@
 -- What the functions inside a decoding ask and leave. No promise cites these.
 --
 --   Blank w                  all of w is zero
---   Ready c τ L y            a code, lost columns, a trial limit and a received array whose checks passed
+--   ReadyLost c τ L y        a code, lost columns, a trial limit and a received array whose checks passed
 --   RestEnds c L y τ e fs    the decoding of the remaining columns ends as e, and leaves the flags fs
 use mathlib.Core.Path.{_≡_}
 use mathlib.Core.List.{List}
 use Prim.Native.Nat.{ℕ}
 use lib.ListN.{length, replicate}
-use Rattle.mark.specs.Code.{Code, IsArray}
-use Rattle.mark.specs.Lost.{core, coreOf}
-use Rattle.mark.proofs.Passed.{Counts}
-use Rattle.mark.proofs.Proper.{Proper}
-use Rattle.mark.proofs.Lost.{Remains}
+use Rattle.codes.specs.Code.{Code, IsArray}
+use Rattle.codes.specs.Lost.{core, coreOf}
+use Rattle.codes.proofs.Passed.{Counts}
+use Rattle.codes.proofs.Proper.{Proper}
+use Rattle.codes.proofs.Lost.{Remains}
 use Rattle.ending.specs.Endings.{Buffers, Ends}
 use Rattle.ending.specs.declared.Ending.{Ending}
 
 unfoldable pub Blank : List ℕ → Type 0
 Blank w = w ≡ replicate (length w) 0
 
-pub record Ready (c : Code) (τ : ℕ) (L y : List ℕ) : Type 0 where
+pub record ReadyLost (c : Code) (τ : ℕ) (L y : List ℕ) : Type 0 where
   pub counts : Counts c
   pub proper : Proper c
   pub received : IsArray c y

@@ -4,12 +4,11 @@ ghost use mathlib.Core.Bool.{true, false};
 ghost use mathlib.Core.List.{List};
 ghost use Prim.Native.Nat.{ℕ, suc, _*_, _≤_};
 ghost use lib.ListN.{length};
-ghost use Rattle.field.specs.Tables.{IsTable};
-ghost use Rattle.mark.specs.Code.{IsArray, codeOf, jointLimit};
-ghost use Rattle.mark.proofs.Passed.{Counts};
-ghost use Rattle.mark.proofs.Proper.{Proper};
+ghost use Rattle.field.specs.Working.Tables.{IsTable};
+ghost use Rattle.codes.specs.Code.{codeOf, jointLimit};
 ghost use Rattle.basis.proofs.Lines.{Line, another};
-ghost use Rattle.solver.specs.Held.{Holds, LeadsOf};
+ghost use Rattle.solver.specs.Working.Held.{HoldsLines, LeadsOf};
+ghost use Rattle.ending.specs.Working.{Ready, mostCells};
 ghost use Rattle.ending.specs.Endings.{Buffers, Ends};
 ghost use Rattle.ending.proofs.Model.{Beyond, decided, linesOf};
 ghost use Rattle.conditions.specs.Working.{reducedPoints, reducedValues};
@@ -44,10 +43,10 @@ fn decide(
     array: &mut [u8],
     flags: &mut [u8],
 ) -> Ending
-    requires { ⌜ Counts (codeOf degree (now points) (now lengths)) × Proper (codeOf degree (now points) (now lengths)) ⌝ }
-    requires { ⌜ IsArray (codeOf degree (now points) (now lengths)) (now received) × (limit ≤ jointLimit (codeOf degree (now points) (now lengths))) × IsTable degree (now table) ⌝ }
-    requires { ⌜ (count ≤ 380) × (3840 ≤ length (now space)) × (length (now array) ≡ 384) × (length (now flags) ≡ 96) ⌝ }
-    requires { ⌜ Holds degree count (suc (length (now lengths))) count (now leads) (now space) (linesOf (codeOf degree (now points) (now lengths)) (now received)) ⌝ }
+    requires { ⌜ Ready (codeOf degree (now points) (now lengths)) (now received) ⌝ }
+    requires { ⌜ (limit ≤ jointLimit (codeOf degree (now points) (now lengths))) × IsTable degree (now table) ⌝ }
+    requires { ⌜ (count ≤ 380) × (3840 ≤ length (now space)) × (length (now array) ≡ mostCells) × (length (now flags) ≡ 96) ⌝ }
+    requires { ⌜ HoldsLines degree count (suc (length (now lengths))) count (now leads) (now space) (linesOf (codeOf degree (now points) (now lengths)) (now received)) ⌝ }
     ensures { λ r. ⌜ ((lent : Buffers) → decided (codeOf degree (now (points .entry)) (now (lengths .entry))) (now (received .entry)) limit lent
         ≡ (r, released r (fronts (codeOf degree (now (points .entry)) (now (lengths .entry))) (now (array .exit)) (now (flags .exit))) lent)) ⌝ }
 {
@@ -61,7 +60,7 @@ fn decide(
     if another_within(leads, lines, m, t) {
         return Ending::Several(t as u8);
     }
-    let from = 768 * p + count;
+    let from = solver::LINE * p + count;
     finish::divide(
         table,
         degree,
@@ -88,10 +87,10 @@ fn locate(
     flags: &mut [u8],
     space: &mut [u8],
 ) -> Ending
-    requires { ⌜ Counts (codeOf degree (now points) (now lengths)) × Proper (codeOf degree (now points) (now lengths)) ⌝ }
-    requires { ⌜ IsArray (codeOf degree (now points) (now lengths)) (now received) × (limit ≤ jointLimit (codeOf degree (now points) (now lengths))) × IsTable degree (now table) ⌝ }
+    requires { ⌜ Ready (codeOf degree (now points) (now lengths)) (now received) ⌝ }
+    requires { ⌜ (limit ≤ jointLimit (codeOf degree (now points) (now lengths))) × IsTable degree (now table) ⌝ }
     requires { ⌜ (now us ≡ reducedValues degree (now points) (now lengths) (now received)) × (now xs ≡ reducedPoints (now points) (now lengths)) ⌝ }
-    requires { ⌜ (3840 ≤ length (now space)) × (length (now array) ≡ 384) × (length (now flags) ≡ 96) ⌝ }
+    requires { ⌜ (3840 ≤ length (now space)) × (length (now array) ≡ mostCells) × (length (now flags) ≡ 96) ⌝ }
     ensures { λ r. ⌜ ((lent : Buffers) → decided (codeOf degree (now (points .entry)) (now (lengths .entry))) (now (received .entry)) limit lent
         ≡ (r, released r (fronts (codeOf degree (now (points .entry)) (now (lengths .entry))) (now (array .exit)) (now (flags .exit))) lent)) ⌝ }
 {
@@ -134,9 +133,9 @@ pub(crate) fn end(
     flags: &mut [u8],
     space: &mut [u8],
 ) -> Ending
-    requires { ⌜ Counts (codeOf degree (now points) (now lengths)) × Proper (codeOf degree (now points) (now lengths)) ⌝ }
-    requires { ⌜ IsArray (codeOf degree (now points) (now lengths)) (now received) × (limit ≤ jointLimit (codeOf degree (now points) (now lengths))) × IsTable degree (now table) ⌝ }
-    requires { ⌜ (3840 ≤ length (now space)) × (length (now array) ≡ 384) × (length (now flags) ≡ 96) ⌝ }
+    requires { ⌜ Ready (codeOf degree (now points) (now lengths)) (now received) ⌝ }
+    requires { ⌜ (limit ≤ jointLimit (codeOf degree (now points) (now lengths))) × IsTable degree (now table) ⌝ }
+    requires { ⌜ (3840 ≤ length (now space)) × (length (now array) ≡ mostCells) × (length (now flags) ≡ 96) ⌝ }
     ensures { λ r. ⌜ ((lent : Buffers) → Ends (codeOf degree (now (points .entry)) (now (lengths .entry))) (now (received .entry)) limit lent
         r (released r (fronts (codeOf degree (now (points .entry)) (now (lengths .entry))) (now (array .exit)) (now (flags .exit))) lent)) ⌝ }
 {

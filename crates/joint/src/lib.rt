@@ -3,16 +3,18 @@ mod ends;
 
 ghost use mathlib.Core.Path.{_≡_};
 ghost use lib.ListN.{length, take};
-ghost use Rattle.mark.specs.Code.{codeOf, columns};
-ghost use Rattle.mark.specs.Lost.{core};
-ghost use Rattle.mark.proofs.Passed.{PassedDecoding};
+ghost use Rattle.codes.specs.Code.{codeOf, columns};
+ghost use Rattle.codes.specs.Lost.{core};
+ghost use Rattle.codes.specs.Checks.{spaceBytes};
+ghost use Rattle.codes.proofs.Passed.{PassedDecoding};
 ghost use Rattle.ending.specs.Endings.{Ends};
 ghost use Rattle.joint.specs.Promises.{Decodes, buffers, given, left};
 ghost use Rattle.joint.specs.Lost.{DecodesLost, LostEnds};
 ghost use Rattle.finish.specs.Working.{released};
-ghost use Rattle.joint.specs.Working.{Blank, Ready, RestEnds};
+ghost use Rattle.joint.specs.Working.{Blank, ReadyLost, RestEnds};
 use ending::Ending;
 use field::tables;
+use mark::checks::SPACE;
 
 // Releases the answer and its flags to the buffers lent, on `corrected` alone.
 fn release(ending: Ending, own: &[u8], wrong: &[u8], answer: &mut [u8], flags: &mut [u8])
@@ -43,7 +45,7 @@ fn work(
     flags: &mut [u8],
     space: &mut [u8],
 ) -> Ending
-    requires { ⌜ PassedDecoding (codeOf degree (now points) (now lengths)) limit (now received) (now answer) (now flags) (now space) × (length (now space) ≡ 49152) ⌝ }
+    requires { ⌜ PassedDecoding (codeOf degree (now points) (now lengths)) limit (now received) (now answer) (now flags) (now space) × (length (now space) ≡ spaceBytes) ⌝ }
     ensures { λ r. ⌜ Ends (codeOf degree (now (points .entry)) (now (lengths .entry))) (now (received .entry)) limit
         (buffers (now (answer .entry)) (now (flags .entry))) r (buffers (now (answer .exit)) (now (flags .exit)))
         × Blank (now (space .exit)) ⌝ }
@@ -71,7 +73,7 @@ fn work(
         answer,
         flags,
     );
-    rows::clear(space, 0, 49152);
+    rows::clear(space, 0, SPACE);
     ending
 }
 
@@ -112,7 +114,7 @@ pub fn decode(
         received,
         answer,
         flags,
-        &mut space[..49152],
+        &mut space[..SPACE],
     )
 }
 
@@ -127,7 +129,7 @@ fn decode_rest(
     wrong: &mut [u8],
     space: &mut [u8],
 ) -> Ending
-    requires { ⌜ Ready (codeOf degree (now points) (now lengths)) limit (now lost) (now received) × (length (now space) ≡ 49152) × (length (now wrong) ≡ 96) ⌝ }
+    requires { ⌜ ReadyLost (codeOf degree (now points) (now lengths)) limit (now lost) (now received) × (length (now space) ≡ spaceBytes) × (length (now wrong) ≡ 96) ⌝ }
     ensures { λ r. ⌜ RestEnds (codeOf degree (now (points .entry)) (now (lengths .entry))) (now (lost .entry)) (now (received .entry)) limit r
         (take (columns (core (codeOf degree (now (points .entry)) (now (lengths .entry))) (now (lost .entry)))) (now (wrong .exit)))
         × (length (now (wrong .exit)) ≡ 96) × Blank (now (space .exit)) ⌝ }
@@ -163,7 +165,7 @@ fn work_lost(
     flags: &mut [u8],
     space: &mut [u8],
 ) -> Ending
-    requires { ⌜ Ready (codeOf degree (now points) (now lengths)) limit (now lost) (now received) × (length (now space) ≡ 49152) ⌝ }
+    requires { ⌜ ReadyLost (codeOf degree (now points) (now lengths)) limit (now lost) (now received) × (length (now space) ≡ spaceBytes) ⌝ }
     requires { ⌜ (length (now answer) ≡ length (now received)) × (length (now flags) ≡ length (now points)) ⌝ }
     ensures { λ r. ⌜ LostEnds (codeOf degree (now (points .entry)) (now (lengths .entry))) (now (lost .entry)) (now (received .entry)) limit
         (buffers (now (answer .entry)) (now (flags .entry))) r (buffers (now (answer .exit)) (now (flags .exit)))
@@ -243,7 +245,7 @@ pub fn decode_lost(
             received,
             answer,
             flags,
-            &mut space[..49152],
+            &mut space[..SPACE],
         );
     }
     work_lost(
@@ -255,6 +257,6 @@ pub fn decode_lost(
         received,
         answer,
         flags,
-        &mut space[..49152],
+        &mut space[..SPACE],
     )
 }

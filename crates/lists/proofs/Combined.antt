@@ -23,9 +23,9 @@ use lib.Pow.{pow-pos, pow-mono, shr-lt}
 use Rattle.refusal.specs.Refusal.{badDegree}
 use Rattle.refusal.proofs.Laws.{degrees}
 use Rattle.field.specs.Symbols.{plus, modulus, timesX, timesLow, times}
-use Rattle.field.specs.Doublings.{doublingsFrom}
+use Rattle.field.specs.Working.Doublings.{doublingsFrom}
 use Rattle.field.proofs.Doublings.{doublings-at}
-use Rattle.lists.specs.Combining.{combinedFrom, fourCombined}
+use Rattle.lists.specs.Working.Combining.{combinedFrom, fourCombined}
 use Rattle.field.proofs.Sums.{plus-comm, plus-zero, plus-self, plus-shift, plus-low, top}
 use Rattle.field.proofs.Sums.{bit-cases, bit-lt, Additive, additive-zero, additive-bit}
 use Rattle.field.proofs.Products.{timesX-plus, plus-times, Tested, times-below, x-times}

@@ -22,7 +22,7 @@ use Rattle.patch.proofs.Loops.{Filling, unfilled, turn}
 use Rattle.patch.proofs.Parts.{length-part, part-at}
 use Rattle.field.specs.Symbols.{plus, times}
 use Rattle.field.proofs.Sums.{plus-below}
-use Rattle.lists.specs.Lists.{added, multiplied, addedAt, multipliedAt, SymbolsAt, Adding, Multiplying}
+use Rattle.lists.specs.Working.Lists.{added, multiplied, addedAt, multipliedAt, SymbolsAt, Adding, Multiplying}
 
 -- a turn of a loop that multiplies: its factors are symbols, and their product is what it is to write
 module _ {d : ℕ} {w : List ℕ} {a : ℕ} {l : List ℕ} {at b : ℕ} (m : Multiplying d w a l at b)

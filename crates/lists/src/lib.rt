@@ -8,9 +8,9 @@ ghost use lib.ListN.{length};
 ghost use Rattle.patch.specs.Patch.{patch};
 ghost use Rattle.refusal.specs.Refusal.{badDegree};
 ghost use Rattle.field.specs.Symbols.{plus, timesX, timesLow, times};
-ghost use Rattle.field.specs.Tables.{IsTable};
-ghost use Rattle.lists.specs.Combining.{combined, combinedBy, addedBy, fourCombined, Short, Reducer};
-ghost use Rattle.lists.specs.Lists.{SymbolsAt, Adding, Multiplying, scaledAt, addedAt, multipliedAt};
+ghost use Rattle.field.specs.Working.Tables.{IsTable};
+ghost use Rattle.lists.specs.Working.Combining.{combined, combinedBy, addedBy, fourCombined, Short, Reducer};
+ghost use Rattle.lists.specs.Working.Lists.{SymbolsAt, Adding, Multiplying, scaledAt, addedAt, multipliedAt};
 use field::tables;
 use field::tables::Table;
 

@@ -11,109 +11,55 @@
 --   last-skipped                    P3: a reader that skips the last column is shut out
 --   six-first                       points 1 2 1 and too long a message: an encoder that makes check 6 before 5 is shut out
 -- Assumes nothing.
-use mathlib.Core.Path.{_≡_, refl, sym, ap, _∙_}
-use mathlib.Core.Logic.{_↔_, _⊎_, inl, inr}
+use mathlib.Core.Path.{_≡_, refl, sym, _∙_, ap}
+use mathlib.Core.Logic.{_↔_, _⊎_}
 use mathlib.Core.List.{List, [], _∷_}
-use Prim.Native.Nat.{ℕ, zero, suc, _*_}
+use Prim.Native.Nat.{ℕ, _*_}
 use native.Mathlib.Omega.{arith}
 use lib.ListN.{length, getD}
 use Rattle.refusal.specs.Refusal.{first, badDegree, outside, someOutside}
+use Rattle.refusal.proofs.Ladders.{passed-on, front-passed}
 use Rattle.field.specs.Symbols.{plus, modulus, timesX, timesLow, times}
 use Rattle.poly.specs.Poly.{value, valuesAt}
-use Rattle.mark.specs.Code.{Code, codeOf, rows, columns, total, IsMessage, IsArray, encodedRows, encoded, CodeArray}
-use Rattle.mark.specs.Checks.{codeChecks, wrongLength, bufferChecks, encodeChecks, readChecks}
-use Rattle.mark.specs.Promises.{Left, EncodesBy, Encodes, ReadsBy, Reads, done, refused}
-use Rattle.mark.specs.declared.Outcome.{Outcome}
+use Rattle.codes.specs.Code.{Code, codeOf, rows, columns, total, IsMessage, IsArray, encodedRows, encoded, CodeArray}
+use Rattle.codes.specs.Checks.{codeChecks, wrongLength, bufferChecks, encodeChecks, readChecks}
+use Rattle.codes.proofs.Proper.{Proper, neither, points-test, symbols-test}
+use Rattle.codes.proofs.Passed.{is-right, encoding, reading}
+use Rattle.codes.proofs.Messages.{encoded-array, one-message}
+use Rattle.mark.specs.Promises.{meaning, Left, Encodes, Reads, done, refused}
 use Rattle.mark.specs.declared.Outcome.the-variants.{Done, Refused}
-use Rattle.mark.proofs.Proper.{Proper, neither, points-test, symbols-test}
-use Rattle.mark.proofs.Passed.{passed-on, front-passed, is-right, encoding, reading}
-use Rattle.mark.proofs.Messages.{encoded-array, one-message}
-
-pub outcome-of : {x y : Left} → x ≡ y → x .outcome ≡ y .outcome
-outcome-of e = ap (λ (x : Left). x .outcome) e
-
-pub buffer-of : {x y : Left} → x ≡ y → x .buffer ≡ y .buffer
-buffer-of e = ap (λ (x : Left). x .buffer) e
-
--- done is not refused
-pub apart : {P : Type 0} (o : Outcome) (k : ℕ) → o ≡ Done → o ≡ Refused k → P
-apart o k p q = let z : _≡_ {A = ℕ} 0 1 = cc in absurd (omega arith)
+use Rattle.mark.proofs.Promised.{writes-unique, write-done, write-is, write-refused}
+use Rattle.mark.proofs.Promised.{finds, finds-unique, find-done, find-message, find-refused}
 
 module _ (c : Code) (m lent : List ℕ) where
   pub encodes-unique : (x y : Left) → Encodes c m lent x → Encodes c m lent y → x ≡ y
-  encodes-unique x y = go (first (encodeChecks c m lent))
-    where
-      go : (n : ℕ) → EncodesBy n c m lent x → EncodesBy n c m lent y → x ≡ y
-      go zero p q = p ∙ sym q
-      go (suc k) p q = p ∙ sym q
+  encodes-unique = writes-unique (encodeChecks c m lent) (encoded c m) lent
 
   module _ (x : Left) (h : Encodes c m lent x) where
-    -- 'Encoding and reading answer "refused" with its number, or "done" with the result written'
-    pub encode-done : (x .outcome ≡ Done) ↔ (first (encodeChecks c m lent) ≡ 0)
-    encode-done = go (first (encodeChecks c m lent)) h
-      where
-        go : (n : ℕ) → EncodesBy n c m lent x → (x .outcome ≡ Done) ↔ (n ≡ 0)
-        go zero p = (λ e. refl, λ e. outcome-of p)
-        go (suc k) p = (λ e. apart (x .outcome) (suc k) e (outcome-of p), λ e. absurd (omega arith))
+    pub encode-done : (x .outcome ≡ meaning Done) ↔ (first (encodeChecks c m lent) ≡ 0)
+    encode-done = write-done (encodeChecks c m lent) (encoded c m) lent x h
 
-    pub encode-array : x .outcome ≡ Done → x .buffer ≡ encoded c m
-    encode-array = go (first (encodeChecks c m lent)) h
-      where
-        go : (n : ℕ) → EncodesBy n c m lent x → x .outcome ≡ Done → x .buffer ≡ encoded c m
-        go zero p e = buffer-of p
-        go (suc k) p e = apart (x .outcome) (suc k) e (outcome-of p)
+    pub encode-array : x .outcome ≡ meaning Done → x .buffer ≡ encoded c m
+    encode-array = write-is (encodeChecks c m lent) (encoded c m) lent x h
 
-    -- 'A refused encoding or reading leaves its result buffer as lent.'
-    pub encode-refused : (k : ℕ) → x .outcome ≡ Refused k → (first (encodeChecks c m lent) ≡ k) × (x .buffer ≡ lent)
-    encode-refused k = go (first (encodeChecks c m lent)) h
-      where
-        go : (n : ℕ) → EncodesBy n c m lent x → x .outcome ≡ Refused k → (n ≡ k) × (x .buffer ≡ lent)
-        go zero p e = apart (x .outcome) k (outcome-of p) e
-        go (suc j) p e = let q : x .outcome ≡ Refused (suc j) = outcome-of p in (cc, buffer-of p)
+    pub encode-refused : (k : ℕ) → x .outcome ≡ meaning (Refused k) → (first (encodeChecks c m lent) ≡ k) × (x .buffer ≡ lent)
+    encode-refused = write-refused (encodeChecks c m lent) (encoded c m) lent x h
 
 module _ (c : Code) (a lent : List ℕ) where
-  -- the message of a code array after the checks is the only one
-  same-message : {m m′ : List ℕ} → 0 ≡ first (readChecks c a lent) → IsMessage c m → IsMessage c m′
-      → encoded c m ≡ a → encoded c m′ ≡ a → m ≡ m′
-  same-message z i i′ e e′ = one-message (reading c a lent z .proper) i i′ (e ∙ sym e′)
-
   pub reads-unique : (x y : Left) → Reads c a lent x → Reads c a lent y → x ≡ y
-  reads-unique x y = go (first (readChecks c a lent)) refl
-    where
-      go : (n : ℕ) → n ≡ first (readChecks c a lent) → ReadsBy n c a lent x → ReadsBy n c a lent y → x ≡ y
-      go zero z (inl (m, i, e, p)) (inl (m′, i′, e′, q)) = p ∙ ap done (same-message z i i′ e e′) ∙ sym q
-      go zero z (inl (m, i, e, p)) (inr (n, q)) = absurd (n (m, i, e))
-      go zero z (inr (n, p)) (inl (m, i, e, q)) = absurd (n (m, i, e))
-      go zero z (inr (n, p)) (inr (n′, q)) = p ∙ sym q
-      go (suc k) z p q = p ∙ sym q
+  reads-unique = finds-unique (readChecks c a lent) (IsMessage c) (encoded c) a lent
+      (λ z m m′ i i′ e. one-message (reading c a lent z .proper) i i′ e)
 
   module _ (x : Left) (h : Reads c a lent x) where
-    -- 'reading: not a code array' is the only reason besides the checks
-    pub read-done : (x .outcome ≡ Done) ↔ ((first (readChecks c a lent) ≡ 0) × CodeArray c a)
-    read-done = go (first (readChecks c a lent)) h
-      where
-        go : (n : ℕ) → ReadsBy n c a lent x → (x .outcome ≡ Done) ↔ ((n ≡ 0) × CodeArray c a)
-        go zero (inl (m, i, e, p)) = (λ d. (refl, (m, i, e)), λ d. outcome-of p)
-        go zero (inr (n, p)) = (λ d. apart (x .outcome) 9 d (outcome-of p), λ d. absurd (n (d .1)))
-        go (suc k) p = (λ d. apart (x .outcome) (suc k) d (outcome-of p), λ d. absurd (omega (arith, d .0)))
+    pub read-done : (x .outcome ≡ meaning Done) ↔ ((first (readChecks c a lent) ≡ 0) × CodeArray c a)
+    read-done = find-done (readChecks c a lent) (IsMessage c) (encoded c) a lent x h
 
-    pub read-message : x .outcome ≡ Done → IsMessage c (x .buffer) × (encoded c (x .buffer) ≡ a)
-    read-message = go (first (readChecks c a lent)) h
-      where
-        go : (n : ℕ) → ReadsBy n c a lent x → x .outcome ≡ Done → IsMessage c (x .buffer) × (encoded c (x .buffer) ≡ a)
-        go zero (inl (m, i, e, p)) d = rw (buffer-of p) (i, e)
-        go zero (inr (n, p)) d = apart (x .outcome) 9 d (outcome-of p)
-        go (suc k) p d = apart (x .outcome) (suc k) d (outcome-of p)
+    pub read-message : x .outcome ≡ meaning Done → IsMessage c (x .buffer) × (encoded c (x .buffer) ≡ a)
+    read-message = find-message (readChecks c a lent) (IsMessage c) (encoded c) a lent x h
 
-    pub read-refused : (k : ℕ) → x .outcome ≡ Refused k
+    pub read-refused : (k : ℕ) → x .outcome ≡ meaning (Refused k)
         → ((first (readChecks c a lent) ≡ k) ⊎ ((k ≡ 9) × (CodeArray c a → ⊥))) × (x .buffer ≡ lent)
-    read-refused k = go (first (readChecks c a lent)) h
-      where
-        go : (n : ℕ) → ReadsBy n c a lent x → x .outcome ≡ Refused k
-            → ((n ≡ k) ⊎ ((k ≡ 9) × (CodeArray c a → ⊥))) × (x .buffer ≡ lent)
-        go zero (inl (m, i, e, p)) d = apart (x .outcome) k (outcome-of p) d
-        go zero (inr (n, p)) d = let q : x .outcome ≡ Refused 9 = outcome-of p in (inr (cc, n), buffer-of p)
-        go (suc j) p d = let q : x .outcome ≡ Refused (suc j) = outcome-of p in (inl cc, buffer-of p)
+    read-refused = find-refused (readChecks c a lent) (IsMessage c) (encoded c) a lent x h
 
 -- an array of the code passes the checks of reading, with a buffer of the right length
 array-passes : (c : Code) (a lent : List ℕ) → Proper c → 0 ≡ first (codeChecks c) → IsArray c a → length lent ≡ total (c .lengths)
@@ -138,7 +84,7 @@ module _ (c : Code) (m lent a : List ℕ) (written : Encodes c m lent (done a)) 
       let i : IsArray c a = rw is (encoded-array (ok .proper) (ok .message)) in
       let z : first (readChecks c a old) ≡ 0 =
       array-passes c a old (ok .proper) (front-passed (codeChecks c) _ tt passed) i (e ∙ ok .message .count) in
-      reads-unique c a old x (done m) h (rw z (inl (m, ok .message, sym is, refl)))
+      reads-unique c a old x (done m) h (finds (readChecks c a old) (IsMessage c) (encoded c) a old (sym z) (ok .message) (sym is))
 
   pub one-to-one : (m′ lent′ : List ℕ) → Encodes c m′ lent′ (done a) → m ≡ m′
   one-to-one m′ lent′ h =
@@ -175,7 +121,7 @@ last-skipped lent h =
     omega arith
 
 -- 'Points 1 2 1: refused 6'; with a message of three for k = 2 it is 5
-pub six-first : (lent : List ℕ) → Encodes (codeOf 4 (1 ∷ 2 ∷ 1 ∷ []) (2 ∷ [])) (5 ∷ 6 ∷ 7 ∷ []) lent (refused 6 lent) → ⊥
+pub six-first : (lent : List ℕ) → Encodes (codeOf 4 (1 ∷ 2 ∷ 1 ∷ []) (2 ∷ [])) (5 ∷ 6 ∷ 7 ∷ []) lent (refused lent 6) → ⊥
 unfolding first badDegree outside someOutside total
 six-first lent h = let z = encode-refused (codeOf 4 (1 ∷ 2 ∷ 1 ∷ []) (2 ∷ [])) (5 ∷ 6 ∷ 7 ∷ []) lent
-    (refused 6 lent) h 6 refl .0 in omega arith
+    (refused lent 6) h 6 refl .0 in omega arith

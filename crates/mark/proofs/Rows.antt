@@ -4,24 +4,29 @@
 --   Place c l p q k     row l is at these places, and has k coefficients
 --   first-place, next-place    of the first row; of the next
 --   bounds              a row lies within the message and the array
---   copied              what was copied to the front is there
---   released            what was laid at the front, copied over a whole list
+--   sizes-of            what the checks of a code leave of its lengths and points
+--   Laid c l p q at rest whole s₀ s    row by row the whole is laid at the front of s₀: s is so far, and the rest comes from at on
+--   laid-first, laid-next, laid-last    before the first row; a row; the whole
+--   made                what is lent to those that make rows
+--   take-copied         what was copied to the front is there
+--   copied-lay          what was laid at the front, copied over a whole list
 --   encoded-more        a row's values, laid before the rows that are left
 --   message-more, reduced-more    the same of the message that is read, and of the reduced values
 -- Assumes nothing.
-use mathlib.Core.Path.{_≡_, ap, _∙_}
+use mathlib.Core.Path.{_≡_, refl, sym, ap, _∙_}
 use mathlib.Core.Logic.{_↔_}
-use mathlib.Core.List.{List, _∷_, _++_, append-nil}
+use mathlib.Core.List.{List, [], _∷_, _++_, append-nil}
 use Prim.Native.Nat.{ℕ, _+_, _-_, _*_, _≤_, _<_}
 use native.Mathlib.Nat.{suc-mul}
 use native.Mathlib.Numerals.{add-one}
 use native.Mathlib.Omega.{arith}
-use lib.ListN.{length, getD, take, drop, length-drop}
+use lib.ListN.{length, getD, take, drop, length-drop, replicate}
 use lib.Seq.{drop-cons, drop-drop, length-take-le, take-append-seam, take-length, drop-length}
 use Rattle.patch.specs.Parts.{lay}
-use Rattle.patch.proofs.Parts.{laid-front, behind}
+use Rattle.patch.proofs.Parts.{lay-none, laid-front, lay-behind}
 use Rattle.refusal.proofs.Laws.{each-within}
 use Rattle.field.specs.Arithmetic.{gf}
+use Rattle.field.specs.Working.Tables.{IsTable}
 use Rattle.field.proofs.Laws.{Field}
 use Rattle.field.proofs.Instance.{field}
 use Rattle.poly.specs.Poly.{Zero, valuesAt}
@@ -29,11 +34,12 @@ use Rattle.poly.proofs.Forms.{reduce, fromNewton}
 use Rattle.poly.proofs.Values.{length-values}
 use Rattle.poly.proofs.Differences.{length-reduce}
 use Rattle.poly.proofs.Newton.{length-newton}
-use Rattle.mark.specs.Code.{Code, columns, rows, total, encodedRows}
-use Rattle.mark.proofs.Parts.{all-drop}
-use Rattle.mark.proofs.Proper.{Proper, lengths-test}
-use Rattle.mark.proofs.Passed.{Counts}
-use Rattle.mark.proofs.Messages.{messageRows, ReducedRows, length-encoded, length-message}
+use Rattle.codes.specs.Code.{Code, columns, rows, total, encodedRows}
+use Rattle.codes.proofs.Parts.{all-drop}
+use Rattle.codes.proofs.Proper.{Proper, lengths-test}
+use Rattle.codes.proofs.Passed.{Counts}
+use Rattle.codes.proofs.Messages.{messageRows, ReducedRows, length-encoded, length-message}
+use Rattle.mark.specs.Working.{Sizes, Made}
 
 -- the rows before row l have p coefficients and q symbols
 pub record Before (c : Code) (l p q : ℕ) : Type 0 where
@@ -58,6 +64,9 @@ pub record Bounds (c : Code) (p q k : ℕ) : Type 0 where
   pub array : q + columns c ≤ rows c * columns c
   pub coefficients : total (c .lengths) ≤ 384
   pub symbols : rows c * columns c ≤ 384
+
+pub sizes-of : {c : Code} → Counts c → Sizes (c .lengths) (c .points)
+sizes-of h = record { most-rows = h .most-rows; most-columns = h .most-columns; lengths = h .lengths }
 
 module _ {c : Code} {l p q k : ℕ} (h : Place c l p q k) where
   -- of the lengths from l on, the first and the others
@@ -93,13 +102,32 @@ module _ {c : Code} {l p q k : ℕ} (h : Place c l p q k) where
         symbols = h .counts .cells;
       }
 
-pub copied : (v l : List ℕ) {s : List ℕ} → s ≡ take (length v) v ++ drop (length v) l → take (length v) s ≡ v
-copied v l e = rw (e, take-length) (take-append-seam v (drop (length v) l))
+pub record Laid (c : Code) (l p q at : ℕ) (rest whole s₀ s : List ℕ) : Type 0 where
+  pub places : Before c l p q
+  pub same : length s ≡ length s₀
+  pub so-far : lay at rest s ≡ lay 0 whole s₀
+
+pub laid-first : (c : Code) (whole s : List ℕ) → Laid c 0 0 0 0 whole whole s s
+laid-first c whole s = record { places = first-place c; same = refl; so-far = refl }
+
+module _ {c : Code} {l p q at : ℕ} {rest whole s₀ s : List ℕ} (h : Laid c l p q at rest whole s₀ s) where
+  pub laid-next : {k at′ : ℕ} {rest′ s′ : List ℕ} → Place c l p q k → length s′ ≡ length s → lay at′ rest′ s′ ≡ lay at rest s
+      → Laid c (l + 1) (p + k) (q + columns c) at′ rest′ whole s₀ s′
+  laid-next row e is = record { places = next-place row; same = e ∙ h .same; so-far = is ∙ h .so-far }
+
+  pub laid-last : rest ≡ [] → s ≡ lay 0 whole s₀
+  laid-last e = sym (lay-none at s) ∙ (rw e at (h .so-far))
+
+pub made : {c : Code} {t : List ℕ} → Counts c → Proper c → IsTable (c .degree) t → Made t c (replicate 384 0)
+made h p table = record { counts = h; proper = p; table = table; room = refl }
+
+pub take-copied : (v l : List ℕ) {s : List ℕ} → s ≡ take (length v) v ++ drop (length v) l → take (length v) s ≡ v
+take-copied v l e = rw (e, take-length) (take-append-seam v (drop (length v) l))
 
 -- what was laid at the front, copied over the whole of a list that is as long
-pub released : (v l old : List ℕ) {s out : List ℕ} → s ≡ lay 0 v l → length v ≡ length old → length v ≤ length l
+pub copied-lay : (v l old : List ℕ) {s out : List ℕ} → s ≡ lay 0 v l → length v ≡ length old → length v ≤ length l
     → out ≡ take (length (take (length old) s)) (take (length old) s) ++ drop (length (take (length old) s)) old → out ≡ v
-released v l old {s} {out} is e fits out-is =
+copied-lay v l old {s} {out} is e fits out-is =
     let front : take (length old) s ≡ v = laid-front v l is e (omega arith) in
     (rw front at out-is) ∙ rw (take-length, e, drop-length old) (append-nil v)
 
@@ -120,7 +148,7 @@ module _ {c : Code} {l p q k : ℕ} (h : Place c l p q k) where
       let whole : encodedRows (gf degree) points (drop l lengths) (drop p m) ≡ v ++ w = rw (cut h) in
       let room : q + length (v ++ w) ≤ length t =
       omega (arith, ap length whole, length-encoded (gf degree) laws points (drop l lengths) (drop p m), h .before .array) in
-      rw (← drop-drop k p m, whole) (behind q v w t (length-values (gf degree) laws points (take k (drop p m))) is room)
+      rw (← drop-drop k p m, whole) (lay-behind q v w t (length-values (gf degree) laws points (take k (drop p m))) is room)
 
   module _ (y : Proper c) (a : List ℕ) (size : length a ≡ rows c * columns c) where
     row-size : length (take (columns c) (drop q a)) ≡ columns c
@@ -148,7 +176,7 @@ module _ {c : Code} {l p q k : ℕ} (h : Place c l p q k) where
               (all-drop _ l lengths (y .lengths)) left,
           h .before .message,
         ) in
-        rw (← drop-drop n q a, whole) (behind p v w t count is room)
+        rw (← drop-drop n q a, whole) (lay-behind p v w t count is room)
 
   pub reduced-more : (a : List ℕ) → ReducedRows (gf degree) points (drop l lengths) (drop q a)
       ↔ (Zero (gf degree) (drop k (reduce (gf degree) k points (take (columns c) (drop q a))))

@@ -5,8 +5,13 @@ ghost use mathlib.Core.List.{List, [], _∷_, _++_};
 ghost use Prim.Native.Nat.{ℕ, _*_, _≤_};
 ghost use lib.ListN.{length};
 ghost use Rattle.refusal.specs.Refusal.{_when_, badPoints, first, someOutside, someOutsideField};
-ghost use Rattle.mark.specs.Code.{codeOf, jointLimit, largest, total};
-ghost use Rattle.mark.specs.Checks.{arrayChecks, bufferChecks, codeChecks, decodeChecks, encodeChecks, lostChecks, readChecks, remainingChecks};
+ghost use Rattle.codes.specs.Code.{codeOf, jointLimit, largest, total};
+ghost use Rattle.codes.specs.Checks.{arrayChecks, bufferChecks, codeChecks, decodeChecks, shapeChecks};
+ghost use Rattle.codes.specs.Checks.{encodeChecks, lostChecks, readChecks, remainingChecks};
+ghost use Rattle.mark.specs.Working.{Sizes};
+
+// For the crates above: the bytes of the working space that a decoding takes.
+pub const SPACE: usize = 49152;
 
 // For the crates above: a byte as a count.
 pub fn wide(x: u8) -> usize
@@ -47,18 +52,15 @@ pub fn largest(lengths: &[u8]) -> usize
 
 // The number of symbols of an array.
 fn cells(lengths: &[u8], points: &[u8]) -> usize
-    requires { ⌜ length (now lengths) ≤ 4 ⌝ }
-    requires { ⌜ length (now points) ≤ 96 ⌝ }
+    requires { ⌜ Sizes (now lengths) (now points) ⌝ }
     ensures { λ r. ⌜ r ≡ length (now (lengths .entry)) * length (now (points .entry)) ⌝ }
 {
     lengths.len() * points.len()
 }
 
-// For the crates above: the joint limit, of whatever degree the code is.
-pub fn joint_limit(lengths: &[u8], points: &[u8]) -> usize
-    requires { ⌜ length (now lengths) ≤ 4 ⌝ }
-    requires { ⌜ length (now points) ≤ 96 ⌝ }
-    requires { ⌜ someOutside 1 (length (now points)) (now lengths) ≡ false ⌝ }
+// The joint limit, of whatever degree the code is.
+fn joint_limit(lengths: &[u8], points: &[u8]) -> usize
+    requires { ⌜ Sizes (now lengths) (now points) ⌝ }
     ensures { λ r. ⌜ ((d : ℕ) → r ≡ jointLimit (codeOf d (now (points .entry)) (now (lengths .entry)))) ⌝ }
 {
     let spare = (cells(lengths, points) - total(lengths)) / (lengths.len() + 1);
@@ -66,9 +68,9 @@ pub fn joint_limit(lengths: &[u8], points: &[u8]) -> usize
     if spare < short { spare } else { short }
 }
 
-// For the crates above: the first of the checks 1 to 4 that applies, 0 where none does.
-pub fn code_refusal(degree: u32, lengths: &[u8], points: &[u8]) -> u8
-    ensures { λ r. ⌜ r ≡ first (codeChecks (codeOf degree (now (points .entry)) (now (lengths .entry)))) ⌝ }
+// For the crates above: the first of the checks 1 to 4 that applies, where so many points are the most; 0 where none does.
+pub fn code_refusal(most: usize, degree: u32, lengths: &[u8], points: &[u8]) -> u8
+    ensures { λ r. ⌜ r ≡ first (shapeChecks most (codeOf degree (now (points .entry)) (now (lengths .entry)))) ⌝ }
 {
     if refusal::bad_degree(degree) {
         return 1;
@@ -76,7 +78,7 @@ pub fn code_refusal(degree: u32, lengths: &[u8], points: &[u8]) -> u8
     if refusal::outside(1, 4, lengths.len()) {
         return 2;
     }
-    if refusal::outside(1, 96, points.len()) {
+    if refusal::outside(1, most, points.len()) {
         return 3;
     }
     if refusal::some_outside(1, points.len(), lengths) {
@@ -85,18 +87,26 @@ pub fn code_refusal(degree: u32, lengths: &[u8], points: &[u8]) -> u8
     0
 }
 
-// The first of the checks 6 and 7 that applies, 0 where none does.
-fn symbols_refusal(degree: u32, points: &[u8], symbols: &[u8]) -> u8
-    ensures { λ r. ⌜ r
-        ≡ first ((6 when badPoints degree (now (points .entry))) ∷ (7 when someOutsideField degree (now (symbols .entry))) ∷ []) ⌝ }
+// For the crates above: 6 where check 6 applies, 0 where it does not.
+pub fn points_refusal(degree: u32, points: &[u8]) -> u8
+    ensures { λ r. ⌜ r ≡ first ((6 when badPoints degree (now (points .entry))) ∷ []) ⌝ }
 {
     if refusal::bad_points(degree, points) {
-        return 6;
+        6
+    } else {
+        0
     }
+}
+
+// For the crates above: 7 where check 7 applies, 0 where it does not.
+pub fn symbols_refusal(degree: u32, symbols: &[u8]) -> u8
+    ensures { λ r. ⌜ r ≡ first ((7 when someOutsideField degree (now (symbols .entry))) ∷ []) ⌝ }
+{
     if refusal::some_outside_field(degree, symbols) {
-        return 7;
+        7
+    } else {
+        0
     }
-    0
 }
 
 // The first of the checks 1 to 7 that applies to a message and an array of these lengths, of which the symbols are the
@@ -113,14 +123,18 @@ fn buffers_refusal(
         → r ≡ first (codeChecks (codeOf degree (now (points .entry)) (now (lengths .entry)))
         ++ bufferChecks (codeOf degree (now (points .entry)) (now (lengths .entry))) m a (now (symbols .entry)))) ⌝ }
 {
-    let k = code_refusal(degree, lengths, points);
+    let k = code_refusal(96, degree, lengths, points);
     if k != 0 {
         return k;
     }
     if (message != total(lengths)) | (array != cells(lengths, points)) {
         return 5;
     }
-    symbols_refusal(degree, points, symbols)
+    let k = points_refusal(degree, points);
+    if k != 0 {
+        return k;
+    }
+    symbols_refusal(degree, symbols)
 }
 
 // For the crates above: the first check of encoding that applies, 0 where none does. Of the array's buffer the checks read
@@ -155,15 +169,19 @@ fn array_refusal(
     ensures { λ r. ⌜ ((a f w : List ℕ) → length a ≡ answer → length f ≡ flags → length w ≡ space
         → r ≡ first (arrayChecks (codeOf degree (now (points .entry)) (now (lengths .entry))) (now (received .entry)) a f w)) ⌝ }
 {
-    let k = code_refusal(degree, lengths, points);
+    let k = code_refusal(96, degree, lengths, points);
     if k != 0 {
         return k;
     }
     let right = cells(lengths, points);
-    if (received.len() != right) | (answer != right) | (flags != points.len()) | (space < 49152) {
+    if (received.len() != right) | (answer != right) | (flags != points.len()) | (space < SPACE) {
         return 5;
     }
-    symbols_refusal(degree, points, received)
+    let k = points_refusal(degree, points);
+    if k != 0 {
+        return k;
+    }
+    symbols_refusal(degree, received)
 }
 
 // For the crates above: the first check of decoding that applies, 0 where none does. Of the buffers for the answer, the
@@ -198,7 +216,8 @@ pub fn remaining_refusal(lengths: &[u8], points: &[u8], limit: u32, lost: &[u8])
     requires { ⌜ length (now lengths) ≤ 4 ⌝ }
     requires { ⌜ (1 ≤ length (now points)) × (length (now points) ≤ 96) ⌝ }
     requires { ⌜ someOutside 1 (length (now points)) (now lengths) ≡ false ⌝ }
-    ensures { λ r. ⌜ ((d : ℕ) → r ≡ first (remainingChecks (codeOf d (now (points .entry)) (now (lengths .entry))) limit (now (lost .entry)))) ⌝ }
+    ensures { λ r. ⌜ ((d : ℕ)
+        → r ≡ first (remainingChecks (codeOf d (now (points .entry)) (now (lengths .entry))) limit (now (lost .entry)))) ⌝ }
 {
     if refusal::bad_columns(points.len(), lost) {
         return 16;

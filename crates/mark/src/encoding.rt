@@ -1,12 +1,9 @@
 // Encoding, for a call that passed its checks.
 ghost use mathlib.Core.Path.{_≡_};
-ghost use lib.ListN.{length};
 ghost use Rattle.patch.specs.Parts.{lay};
-ghost use Rattle.refusal.specs.Refusal.{first};
-ghost use Rattle.field.specs.Tables.{IsTable};
-ghost use Rattle.rows.specs.Rows.{Points};
-ghost use Rattle.mark.specs.Code.{IsMessage, codeOf, encoded};
-ghost use Rattle.mark.specs.Checks.{codeChecks, encodeChecks};
+ghost use Rattle.codes.specs.Code.{codeOf, encoded};
+ghost use Rattle.codes.proofs.Passed.{PassedEncoding};
+ghost use Rattle.mark.specs.Working.{Writing};
 use crate::checks;
 use field::tables;
 use field::tables::Table;
@@ -20,10 +17,9 @@ fn write_rows(
     message: &[u8],
     s: &mut [u8],
 )
-    requires { ⌜ 0 ≡ first (codeChecks (codeOf degree (now points) (now lengths))) ⌝ }
-    requires { ⌜ Points degree (now points) × IsMessage (codeOf degree (now points) (now lengths)) (now message) ⌝ }
-    requires { ⌜ IsTable degree (now table) × (length (now s) ≡ 384) ⌝ }
-    ensures { λ _. ⌜ now (s .exit) ≡ lay 0 (encoded (codeOf degree (now (points .entry)) (now (lengths .entry))) (now (message .entry))) (now (s .entry)) ⌝ }
+    requires { ⌜ Writing (now table) (codeOf degree (now points) (now lengths)) (now message) (now s) ⌝ }
+    ensures { λ _. ⌜ now (s .exit)
+        ≡ lay 0 (encoded (codeOf degree (now (points .entry)) (now (lengths .entry))) (now (message .entry))) (now (s .entry)) ⌝ }
 {
     let mut from = 0;
     let mut at = 0;
@@ -45,7 +41,7 @@ pub(crate) fn write_array(
     message: &[u8],
     array: &mut [u8],
 )
-    requires { ⌜ 0 ≡ first (encodeChecks (codeOf degree (now points) (now lengths)) (now message) (now array)) ⌝ }
+    requires { ⌜ PassedEncoding (codeOf degree (now points) (now lengths)) (now message) (now array) ⌝ }
     ensures { λ _. ⌜ now (array .exit) ≡ encoded (codeOf degree (now (points .entry)) (now (lengths .entry))) (now (message .entry)) ⌝ }
 {
     let table = tables::lend(degree);

@@ -3,7 +3,7 @@ pub mod checks;
 mod encoding;
 pub mod reading;
 
-ghost use Rattle.mark.specs.Code.{codeOf};
+ghost use Rattle.codes.specs.Code.{codeOf};
 ghost use Rattle.mark.specs.Promises.{Encodes, Reads, left};
 
 // How an encoding or a reading finished: done with the result written, or refused with its number.

@@ -1,20 +1,13 @@
 // Reading, for a call that passed its checks.
 ghost use mathlib.Core.Path.{_≡_};
-ghost use mathlib.Core.Bool.{true, false};
+ghost use mathlib.Core.Bool.{true};
 ghost use mathlib.Core.Logic.{_↔_};
-ghost use mathlib.Core.List.{List};
-ghost use Prim.Native.Nat.{ℕ, _+_, _≤_};
-ghost use lib.ListN.{length, drop};
-ghost use Rattle.patch.specs.Parts.{lay};
-ghost use Rattle.refusal.specs.Refusal.{badDegree, first};
-ghost use Rattle.field.specs.Symbols.{IsSymbol};
-ghost use Rattle.field.specs.Arithmetic.{gf};
-ghost use Rattle.field.specs.Tables.{IsTable};
-ghost use Rattle.poly.specs.Poly.{All, Zero};
-ghost use Rattle.poly.proofs.Forms.{reduce, fromNewton};
-ghost use Rattle.rows.specs.Rows.{Points, Inverses};
-ghost use Rattle.mark.specs.Code.{CodeArray, IsArray, IsMessage, codeOf, encoded, largest};
-ghost use Rattle.mark.specs.Checks.{codeChecks, readChecks};
+ghost use Prim.Native.Nat.{ℕ};
+ghost use Rattle.poly.specs.Poly.{All};
+ghost use Rattle.codes.specs.Code.{codeOf};
+ghost use Rattle.codes.proofs.Passed.{PassedReading};
+ghost use Rattle.mark.specs.Working.{ArrayRead, MessageWritten, RowRead, RowReduced};
+ghost use Rattle.mark.specs.Working.{Reading, ReadingRow, ReadingRows, ReducingRow};
 use crate::checks;
 use field::tables;
 use field::tables::Table;
@@ -33,6 +26,25 @@ pub fn all_zero(s: &[u8]) -> bool
     true
 }
 
+// For the crates above: k rounds of divided differences of the row, at the front of s, and whether the values behind its first k
+// are all zero; ws are the inverses of the rounds. Up to 15 symbols behind the row change too.
+pub fn reduce_row(
+    table: &Table,
+    degree: u32,
+    points: &[u8],
+    k: usize,
+    ws: &[u8],
+    row: &[u8],
+    s: &mut [u8],
+) -> bool
+    requires { ⌜ ReducingRow degree (now table) (now points) k (now ws) (now row) (now s) ⌝ }
+    ensures { λ r. ⌜ RowReduced degree k (now (points .entry)) (now (row .entry)) (now (s .exit)) r ⌝ }
+{
+    rows::store(row, s, 0);
+    rows::lent::reduce(table, degree, points, k, ws, s);
+    all_zero(&s[k..row.len()])
+}
+
 // The polynomial of a row's first k divided differences, in s from `at` on, and whether the reduced values are all zero; ws
 // are the inverses of the rounds.
 fn read_row(
@@ -45,17 +57,13 @@ fn read_row(
     s: &mut [u8],
     at: usize,
 ) -> bool
-    requires { ⌜ (badDegree degree ≡ false) × IsTable degree (now table) × Points degree (now points) ⌝ }
-    requires { ⌜ (k ≤ length (now points)) × (length (now points) ≤ 96) × (at + k ≤ length (now s)) ⌝ }
-    requires { ⌜ (length (now row) ≡ length (now points)) × All (IsSymbol degree) (now row) × Inverses degree (now points) k (now ws) ⌝ }
-    ensures { λ r. ⌜ ((r ≡ true) ↔ Zero (gf degree) (drop k (reduce (gf degree) k (now (points .entry)) (now (row .entry)))))
-        × (now (s .exit) ≡ lay at (fromNewton (gf degree) k (now (points .entry)) (reduce (gf degree) k (now (points .entry)) (now (row .entry)))) (now (s .entry))) ⌝ }
+    requires { ⌜ ReadingRow degree (now table) (now points) k (now ws) (now row) (now s) at ⌝ }
+    ensures { λ r. ⌜ RowRead degree k (now (points .entry)) (now (row .entry)) at (now (s .entry)) (now (s .exit)) r ⌝ }
 {
     let mut held = [0u8; 112];
-    rows::store(row, &mut held, 0);
-    rows::lent::reduce(table, degree, points, k, ws, &mut held);
+    let good = reduce_row(table, degree, points, k, ws, row, &mut held);
     rows::coefficients(table, degree, points, &held[..k], s, at);
-    all_zero(&held[k..row.len()])
+    good
 }
 
 // Row after row, at the front of s: the message of a code array, ws being the inverses of the longest row's rounds. Answers
@@ -69,12 +77,9 @@ fn read_rows(
     array: &[u8],
     s: &mut [u8],
 ) -> bool
-    requires { ⌜ 0 ≡ first (codeChecks (codeOf degree (now points) (now lengths))) ⌝ }
-    requires { ⌜ Points degree (now points) × IsArray (codeOf degree (now points) (now lengths)) (now array) ⌝ }
-    requires { ⌜ IsTable degree (now table) × (length (now s) ≡ 384) × Inverses degree (now points) (largest (now lengths)) (now ws) ⌝ }
-    ensures { λ r. ⌜ (r ≡ true → (m : List ℕ) × IsMessage (codeOf degree (now (points .entry)) (now (lengths .entry))) m
-        × (encoded (codeOf degree (now (points .entry)) (now (lengths .entry))) m ≡ now (array .entry)) × (now (s .exit) ≡ lay 0 m (now (s .entry))))
-        × (r ≡ false → CodeArray (codeOf degree (now (points .entry)) (now (lengths .entry))) (now (array .entry)) → ⊥) ⌝ }
+    requires { ⌜ ReadingRows (now table) (codeOf degree (now points) (now lengths)) (now ws) (now array) (now s) ⌝ }
+    ensures { λ r. ⌜ ArrayRead (codeOf degree (now (points .entry)) (now (lengths .entry))) (now (array .entry))
+        (now (s .entry)) (now (s .exit)) r ⌝ }
 {
     let mut from = 0;
     let mut at = 0;
@@ -109,12 +114,9 @@ fn read_array(
     array: &[u8],
     s: &mut [u8],
 ) -> bool
-    requires { ⌜ 0 ≡ first (codeChecks (codeOf degree (now points) (now lengths))) ⌝ }
-    requires { ⌜ Points degree (now points) × IsArray (codeOf degree (now points) (now lengths)) (now array) ⌝ }
-    requires { ⌜ IsTable degree (now table) × (length (now s) ≡ 384) ⌝ }
-    ensures { λ r. ⌜ (r ≡ true → (m : List ℕ) × IsMessage (codeOf degree (now (points .entry)) (now (lengths .entry))) m
-        × (encoded (codeOf degree (now (points .entry)) (now (lengths .entry))) m ≡ now (array .entry)) × (now (s .exit) ≡ lay 0 m (now (s .entry))))
-        × (r ≡ false → CodeArray (codeOf degree (now (points .entry)) (now (lengths .entry))) (now (array .entry)) → ⊥) ⌝ }
+    requires { ⌜ Reading (now table) (codeOf degree (now points) (now lengths)) (now array) (now s) ⌝ }
+    ensures { λ r. ⌜ ArrayRead (codeOf degree (now (points .entry)) (now (lengths .entry))) (now (array .entry))
+        (now (s .entry)) (now (s .exit)) r ⌝ }
 {
     let mut ws = [0u8; 9216];
     let k = checks::largest(lengths);
@@ -131,11 +133,9 @@ pub(crate) fn write_message(
     array: &[u8],
     message: &mut [u8],
 ) -> bool
-    requires { ⌜ 0 ≡ first (readChecks (codeOf degree (now points) (now lengths)) (now array) (now message)) ⌝ }
-    ensures { λ r. ⌜ (r ≡ true → IsMessage (codeOf degree (now (points .entry)) (now (lengths .entry))) (now (message .exit))
-        × (encoded (codeOf degree (now (points .entry)) (now (lengths .entry))) (now (message .exit)) ≡ now (array .entry)))
-        × (r ≡ false → (CodeArray (codeOf degree (now (points .entry)) (now (lengths .entry))) (now (array .entry)) → ⊥)
-        × (now (message .exit) ≡ now (message .entry))) ⌝ }
+    requires { ⌜ PassedReading (codeOf degree (now points) (now lengths)) (now array) (now message) ⌝ }
+    ensures { λ r. ⌜ MessageWritten (codeOf degree (now (points .entry)) (now (lengths .entry))) (now (array .entry))
+        (now (message .entry)) (now (message .exit)) r ⌝ }
 {
     let table = tables::lend(degree);
     let mut held = [0u8; 96];

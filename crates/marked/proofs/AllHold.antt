@@ -1,37 +1,46 @@
--- The marked examples hold: antt computes products, encodings, checks, the decoder's model, and the ring's points and word.
+-- The marked examples of calls hold: antt computes products, encodings, checks, the decoder's model, and the ring's points and word.
 --
 --   Computes x    what antt computes of an example; holds, that it is enough
---   all-hold      the claim
+--   calls-hold    the claim, of all but the records
 -- Assumes nothing.
-use mathlib.Core.Path.{_≡_, refl, _∙_}
+use mathlib.Core.Path.{_≡_, refl, sym, _∙_}
 use mathlib.Core.Bool.{Bool, true, false, not, _||_}
 use mathlib.Core.List.{List, [], _∷_, _++_, zip, zipWith}
 use Prim.Native.Nat.{ℕ, _*_}
 use native.Mathlib.Decide.{ℕ-discrete, decLe, decLt}
+use native.Mathlib.Omega.{arith}
 use lib.Dec.{eqb, ltb}
 use lib.ListN.{length}
 use borrow.Author.Tests.{eq-eqb, le-ltb}
-use Rattle.refusal.specs.Refusal.{Check, _when_, first, badDegree, outside, someOutside, outsideField, someOutsideField, isIn, repeated, badPoints}
+use Rattle.refusal.specs.Refusal.{Check, _when_, first, badDegree, outside, someOutside, outsideField, someOutsideField}
+use Rattle.refusal.specs.Refusal.{isIn, repeated, badPoints}
+use Rattle.refusal.proofs.Keeping.{does}
 use Rattle.field.specs.Symbols.{plus, modulus, timesX, timesLow, times, quotientBelow, over}
-use Rattle.field.specs.Answers.{checks, Answers}
+use Rattle.field.specs.Values.{checks, Gives}
 use Rattle.field.specs.declared.Value.the-variants.{Symbol}
 use Rattle.poly.specs.Poly.{All, value, valuesAt, add, scale}
 use Rattle.poly.proofs.Forms.{apart, reduce, newtonValue}
-use Rattle.mark.specs.Code.{Code, rows, columns, total, largest, encodedRows, encoded, flagsFrom, jointLimit}
-use Rattle.mark.specs.Lost.{right}
-use Rattle.mark.specs.Checks.{codeChecks, wrongLength, spaceBytes, encodeChecks, decodeChecks}
-use Rattle.mark.proofs.Parts.{all-map}
-use Rattle.basis.proofs.Mix.{mix}
-use Rattle.basis.proofs.Pivot
+use Rattle.codes.specs.Code.{Code, rows, columns, total, largest, encodedRows, encoded, flagsFrom, jointLimit}
+use Rattle.codes.specs.Lost.{right}
+use Rattle.codes.specs.Checks.{codeChecks, wrongLength, spaceBytes, encodeChecks, decodeChecks}
+use Rattle.codes.proofs.Parts.{all-map}
+use Rattle.mark.proofs.Promised.{writes}
+use Rattle.basis.proofs.Vector.{mix}
+use Rattle.basis.proofs.Scan
 use Rattle.basis.proofs.Lines.{keep, least, another, size, unit, startRows, start, lifted, fix-by, fix, step-by, step, run, solve, cut}
-use Rattle.ending.specs.Endings.{Buffers}
+use Rattle.ending.specs.Endings.{Buffers, Ends}
+use Rattle.ending.specs.declared.Ending.{Ending}
+use Rattle.ending.specs.declared.Ending.the-variants.{Refused}
+use Rattle.joint.specs.Promises.{Given, given, left, cleared, checksOf, Decodes}
+use Rattle.joint.proofs.Promised.{refuses}
 use Rattle.ending.proofs.Model.{reducedRows, filledRow, filledIn, filledRows, beyond, divided, alone, within, lowest, decided}
 use Rattle.ending.proofs.ModelExactly.{ends-exactly}
-use Rattle.ring.specs.Ring.{numbers, ringPoints, ringLength, ringWord}
-use Rattle.ring.specs.Checks.{badSize, badOrder}
-use Rattle.ring.specs.Checks as Ring
-use Rattle.ring.proofs.Figures.{p9, p10}
-use Rattle.marked.specs.Marked.{Example, Lent, Holds, marked, product, encoding, decoding, refusal, points, word}
+use Rattle.hermitian.specs.Ring.{numbers, ringPoints, ringLength, ringWord}
+use Rattle.hermitian.specs.Checks.{badSize, badOrder}
+use Rattle.hermitian.specs.Checks as Ring
+use Rattle.hermitian.proofs.Figures.{p9, p10}
+use Rattle.record.specs.Promises.{Prints}
+use Rattle.marked.specs.Marked.{Example, Lent, Holds, calls, product, encoding, decoding, refusal, points, word, records}
 
 -- the checks of decoding, with buffers of the right lengths
 abbrev inputChecks : Code → ℕ → List ℕ → List Check
@@ -59,34 +68,48 @@ lent-right c τ y lent w h = rw (others-right
     (le-ltb _ _ (h .space)))
 
 abbrev Computes : Example → Type 0
-Computes (product degree a b answer) = Answers (checks degree a b) (times degree a b) (Symbol answer)
-Computes (encoding c m a) = (first (encodeChecks c m a) ≡ 0) × (encoded c m ≡ a)
-Computes (decoding c τ y e left) = (first (inputChecks c τ y) ≡ 0) × ((lent : Buffers) → decided c y τ lent ≡ (e, left lent))
-Computes (refusal c τ y k) = first (inputChecks c τ y) ≡ k
+Computes (product degree a b answer) = Gives (checks degree a b) (times degree a b) (Symbol answer)
+Computes (encoding c m a) = (first (encodeChecks c m a) ≡ 0) × (encoded c m ≡ a) × (length a ≡ rows c * columns c)
+Computes (decoding c τ y e written) = (first (inputChecks c τ y) ≡ 0) × ((lent : Buffers) → decided c y τ lent ≡ (e, written lent))
+Computes (refusal c τ y k) = (first (inputChecks c τ y) ≡ k) × (k ≡ 0 → ⊥)
 Computes (points q ps) = ringPoints q ≡ ps
-Computes (word q m f w) = (first (Ring.encodeChecks q m f w) ≡ 0) × (ringWord q m f ≡ w)
+Computes (word q m f w) = (first (Ring.encodeChecks q m f w) ≡ 0) × (ringWord q m f ≡ w) × (length w ≡ q * q * q)
+Computes (records b lines) = Prints 1 b lines
 
-holds : (x : Example) → Computes x → Holds x
+-- what a decoding is given, and the table of its endings
+module _ (c : Code) (τ : ℕ) (y : List ℕ) (lent : Buffers) (w : List ℕ) where
+  abbrev g : Given
+  g = given c τ y lent w
+
+  decoded : (e : Ending) (b : Buffers) → first (checksOf g) ≡ 0 → Ends c y τ lent e b → Decodes g (left e b (cleared w))
+  decoded e b z h = does (checksOf g) (λ k. left (Refused k) lent w)
+      (λ l. Ends c y τ lent (l .ending) (l .buffers) × (l .space ≡ cleared w)) _ (sym z) (h, refl)
+
+pub holds : (x : Example) → Computes x → Holds x
 unfolding Holds
 holds (product degree a b answer) h = h
-holds (encoding c m a) h = h
-holds (decoding c τ y e left) (h, d) = λ lent w l.
-    let passes : first (decodeChecks c τ y (lent .array) (lent .flags) w) ≡ 0 = lent-right c τ y lent w l ∙ h in
-    (passes, ends-exactly c τ y w lent passes (e, left lent) .1 (d lent))
-holds (refusal c τ y k) h = λ lent w l. lent-right c τ y lent w l ∙ h
+holds (encoding c m a) (z, is, n) = λ lent l.
+    writes (encodeChecks c m lent) (encoded c m) lent (let e : length lent ≡ length a = l ∙ sym n in rw e (sym z)) (sym is)
+holds (decoding c τ y e written) (h, d) = λ lent w l.
+    let passes : first (checksOf (given c τ y lent w)) ≡ 0 = lent-right c τ y lent w l ∙ h in
+    decoded c τ y lent w e (written lent) passes (ends-exactly c τ y w lent passes (e, written lent) .1 (d lent))
+holds (refusal c τ y k) (h, some) = λ lent w l.
+    refuses (checksOf (given c τ y lent w)) lent w (Ends c y τ lent) (sym (lent-right c τ y lent w l ∙ h)) some
 holds (points q ps) h = h
-holds (word q m f w) h = h
+holds (word q m f w) (z, is, n) = λ lent l.
+    writes (Ring.encodeChecks q m f lent) (ringWord q m f) lent (let e : length lent ≡ length w = l ∙ sym n in rw e (sym z)) (sym is)
+holds (records b lines) h = h
 
 infixr 10 _&_
 abbrev _&_ : {P Q : Type 0} → P → Q → P × Q
 p & q = (p, q)
 
-all-compute : All Computes marked
-unfolding marked
+all-compute : All Computes calls
+unfolding calls
     first badDegree outside someOutside outsideField someOutsideField isIn repeated badPoints total largest jointLimit
     plus modulus timesX timesLow times quotientBelow over ℕ-discrete decLe decLt
     value valuesAt add scale apart reduce newtonValue encodedRows flagsFrom zip zipWith
-    mix Pivot.lower Pivot.better Pivot.lowest keep least another size unit startRows start lifted fix-by fix step-by step run solve cut
+    mix Scan.lower Scan.better Scan.lowest keep least another size unit startRows start lifted fix-by fix step-by step run solve cut
     right reducedRows filledRow filledIn filledRows beyond divided alone within lowest decided
     numbers ringLength badSize badOrder
 all-compute =
@@ -95,16 +118,16 @@ all-compute =
     & refl
     & refl
     & refl
-    & (refl, refl)
+    & (refl, refl, refl)
     & (refl, λ lent. refl)
     & (refl, λ lent. refl)
     & (refl, λ lent. refl)
     & (refl, λ lent. refl)
-    & refl
+    & (refl, λ z. omega arith)
     & (refl, λ lent. refl)
     & p9
-    & (refl, p10)
+    & (refl, p10, refl)
     & tt
 
-pub all-hold : All Holds marked
-all-hold = all-map Computes Holds marked holds all-compute
+pub calls-hold : All Holds calls
+calls-hold = all-map Computes Holds calls holds all-compute

@@ -1,2 +1,3 @@
 pub mod AllHold
+pub mod Printed
 pub mod ShutOut

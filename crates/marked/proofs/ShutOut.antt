@@ -1,11 +1,12 @@
--- The wrong decoders that 01 shuts out by name: none of them keeps the promise on the first of the three records, P4. And the wrong
--- guarantee, which P8 refutes.
+-- The wrong decoders that 01 shuts out by name: none of them keeps the promise on the first of the three records, P4. The desk that it
+-- shuts out. And the wrong guarantee, which P8 refutes.
 --
 --   p4, p4-left         what the decoding of P4 is given, and what it leaves; p4-decodes, by the proved list
 --   none-to-everything, hollow-to-everything    'a decoder that says "none" or "hollow" to everything'
 --   zeros-as-corrected  'one that returns zeros as corrected'
 --   row-0-alone         'a decoder that repairs row 0 and copies the rest'
 --   invented-detail     'an invented detail'
+--   later-ignored       'a desk whose later columns are ignored': its verdict is not that on the desk as put
 --   p8-nearest, p8-another    two code arrays within two columns of P8's array: the guarantee is not that of the smallest k
 -- Assumes nothing.
 use mathlib.Core.Path.{_≡_, refl, ap}
@@ -13,16 +14,24 @@ use mathlib.Core.List.{List, [], _∷_}
 use Prim.Native.Nat.{ℕ}
 use native.Mathlib.Omega.{arith}
 use lib.ListN.{getD}
+use Rattle.refusal.specs.Meaning.{numberOf, detailOf}
+use Rattle.patch.specs.Patch.{patch}
+use Rattle.patch.specs.Parts.{lay}
 use Rattle.field.specs.Symbols.{plus, modulus, timesX, timesLow, times}
 use Rattle.poly.specs.Poly.{value, valuesAt}
-use Rattle.mark.specs.Code.{Code, total, encodedRows, encoded, differs, flagsFrom, wrongCount}
-use Rattle.ending.specs.Endings.{Buffers, codeOf, detailOf}
+use Rattle.codes.specs.Code.{Code, total, encodedRows, encoded, differs, flagsFrom, wrongCount}
+use Rattle.ending.specs.Endings.{Buffers, meaning}
 use Rattle.ending.specs.declared.Ending.{Ending}
 use Rattle.ending.specs.declared.Ending.the-variants.{Corrected, Nothing, Hollow}
 use Rattle.joint.specs.Promises.{Given, Left, given, left, buffers, cleared, Decodes}
 use Rattle.joint.proofs.Unique.{unique}
-use Rattle.marked.specs.Marked.{gf16, Lent, Holds, marked}
-use Rattle.marked.proofs.AllHold.{all-hold}
+use Rattle.desk.specs.Desk.{zeros, zeroDesk, withColumn, placed}
+use Rattle.desk.specs.Verdict.{IsRow, Misfits, none, fits, fits-not, Verdict, Judges}
+use Rattle.desk.specs.declared.Desk.{Desk}
+use Rattle.desk.specs.declared.Judged.{Judged}
+use Rattle.desk.proofs.Verdicts.{same-count}
+use Rattle.marked.specs.Marked.{gf16, Lent, Holds, calls}
+use Rattle.marked.proofs.AllHold.{calls-hold}
 
 -- buffers and working space as they may come, of the right lengths
 module _ (lent : Buffers) (space : List ℕ) (h : Lent (gf16 (1 ∷ 2 ∷ 4 ∷ 8 ∷ []) (1 ∷ 1 ∷ [])) lent space) where
@@ -33,8 +42,8 @@ module _ (lent : Buffers) (space : List ℕ) (h : Lent (gf16 (1 ∷ 2 ∷ 4 ∷ 
   p4-left = left (Corrected 2) (buffers (5 ∷ 5 ∷ 5 ∷ 5 ∷ 9 ∷ 9 ∷ 9 ∷ 9 ∷ []) (0 ∷ 0 ∷ 1 ∷ 1 ∷ [])) (cleared space)
 
   pub p4-decodes : Decodes p4 p4-left
-  unfolding Holds marked
-  p4-decodes = let p = all-hold .1 .1 .1 .1 .1 .1 .0 lent space h in rw (p .0) (p .1, refl)
+  unfolding Holds calls
+  p4-decodes = calls-hold .1 .1 .1 .1 .1 .1 .0 lent space h
 
   -- what keeps the promise on P4 is what P4 leaves
   only : (l : Left) → Decodes p4 l → l ≡ p4-left
@@ -47,21 +56,25 @@ module _ (lent : Buffers) (space : List ℕ) (h : Lent (gf16 (1 ∷ 2 ∷ 4 ∷ 
   holds-as e b w d = ap (λ (l : Left). l .buffers .array) (only (left e b w) d)
 
   pub none-to-everything : (b : Buffers) (w : List ℕ) → Decodes p4 (left Nothing b w) → ⊥
-  none-to-everything b w d = let z = ap codeOf (ends-as Nothing b w d) in omega (arith, z)
+  none-to-everything b w d = let z = ap (λ (e : Ending). numberOf (meaning e)) (ends-as Nothing b w d) in omega (arith, z)
 
   pub hollow-to-everything : (t : ℕ) (b : Buffers) (w : List ℕ) → Decodes p4 (left (Hollow t) b w) → ⊥
-  hollow-to-everything t b w d = let z = ap codeOf (ends-as (Hollow t) b w d) in omega (arith, z)
+  hollow-to-everything t b w d = let z = ap (λ (e : Ending). numberOf (meaning e)) (ends-as (Hollow t) b w d) in omega (arith, z)
 
   pub zeros-as-corrected : (k : ℕ) (f w : List ℕ) → Decodes p4 (left (Corrected k) (buffers (0 ∷ 0 ∷ 0 ∷ 0 ∷ 0 ∷ 0 ∷ 0 ∷ 0 ∷ []) f) w) → ⊥
   zeros-as-corrected k f w d =
-      let z : _≡_ {A = ℕ} 0 5 = ap (λ (l : List ℕ). getD l 0 0) (holds-as (Corrected k) (buffers (0 ∷ 0 ∷ 0 ∷ 0 ∷ 0 ∷ 0 ∷ 0 ∷ 0 ∷ []) f) w d) in omega (arith, z)
+      let is = holds-as (Corrected k) (buffers (0 ∷ 0 ∷ 0 ∷ 0 ∷ 0 ∷ 0 ∷ 0 ∷ 0 ∷ []) f) w d in
+      let z : _≡_ {A = ℕ} 0 5 = ap (λ (l : List ℕ). getD l 0 0) is in
+      omega (arith, z)
 
   pub row-0-alone : (k : ℕ) (f w : List ℕ) → Decodes p4 (left (Corrected k) (buffers (5 ∷ 5 ∷ 5 ∷ 5 ∷ 9 ∷ 9 ∷ 10 ∷ 8 ∷ []) f) w) → ⊥
   row-0-alone k f w d =
-      let z : _≡_ {A = ℕ} 10 9 = ap (λ (l : List ℕ). getD l 6 0) (holds-as (Corrected k) (buffers (5 ∷ 5 ∷ 5 ∷ 5 ∷ 9 ∷ 9 ∷ 10 ∷ 8 ∷ []) f) w d) in omega (arith, z)
+      let is = holds-as (Corrected k) (buffers (5 ∷ 5 ∷ 5 ∷ 5 ∷ 9 ∷ 9 ∷ 10 ∷ 8 ∷ []) f) w d in
+      let z : _≡_ {A = ℕ} 10 9 = ap (λ (l : List ℕ). getD l 6 0) is in
+      omega (arith, z)
 
   pub invented-detail : (k : ℕ) (b : Buffers) (w : List ℕ) → Decodes p4 (left (Corrected k) b w) → k ≡ 2
-  invented-detail k b w d = ap detailOf (ends-as (Corrected k) b w d)
+  invented-detail k b w d = ap (λ (e : Ending). detailOf (meaning e)) (ends-as (Corrected k) b w d)
 
 -- 'The guarantee is read off the smallest k … P8 refutes it: its array also lies two columns from the code array 6 6 6 6 6 and
 -- 0 0 0 0 0': P8 has two code arrays within two columns, which is (n − k)/2 for its smallest k
@@ -80,3 +93,39 @@ pub p8-another : (encoded p8-code (6 ∷ 0 ∷ 0 ∷ 0 ∷ []) ≡ 6 ∷ 6 ∷ 6
     × (wrongCount p8-code p8-received (6 ∷ 6 ∷ 6 ∷ 6 ∷ 6 ∷ 0 ∷ 0 ∷ 0 ∷ 0 ∷ 0 ∷ []) ≡ 2)
 unfolding total plus modulus timesX timesLow times value valuesAt encodedRows differs flagsFrom
 p8-another = (refl, refl)
+
+-- 'a desk whose later columns are ignored (the verdict is over the array as put)': 5 is put into each of four columns, and k is 1
+abbrev four-points : Code
+four-points = gf16 (1 ∷ 2 ∷ 4 ∷ 8 ∷ []) (1 ∷ [])
+
+abbrev with-five : Desk → ℕ → Desk
+with-five d i = placed d i (5 ∷ [])
+
+abbrev first-alone : Desk
+first-alone = with-five (zeroDesk four-points) 0
+
+abbrev all-four : Desk
+all-four = with-five (with-five (with-five first-alone 1) 2) 3
+
+-- 5 5 5 5 are the values of the polynomial 5
+none-misfits : Verdict all-four 0
+unfolding zeros lay patch withColumn plus modulus timesX timesLow times value valuesAt
+none-misfits = fits (5 ∷ [], record { count = refl; symbols = (omega arith, tt) }, refl) none
+
+-- 5 0 0 0 are those of none
+no-constant : IsRow 4 (1 ∷ 2 ∷ 4 ∷ 8 ∷ []) 1 (5 ∷ 0 ∷ 0 ∷ 0 ∷ []) → ⊥
+unfolding plus modulus timesX timesLow times value valuesAt
+no-constant ([], p, e) = omega (arith, p .count)
+no-constant (a ∷ [], p, e) =
+    let at-1 : plus a 0 ≡ 5 = ap (λ (l : List ℕ). getD l 0 0) e in
+    let at-2 : plus a 0 ≡ 0 = ap (λ (l : List ℕ). getD l 1 0) e in
+    omega arith
+no-constant (a ∷ b ∷ f, p, e) = omega (arith, p .count)
+
+one-misfit : Verdict first-alone 1
+unfolding zeros lay patch withColumn
+one-misfit = fits-not no-constant none
+
+pub later-ignored : (r : Judged) → Judges all-four r → Verdict first-alone (r .verdict) → ⊥
+later-ignored r h v =
+    omega (arith, same-count (h .number) none-misfits, same-count v one-misfit)

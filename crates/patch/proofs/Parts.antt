@@ -11,7 +11,7 @@
 --   lay-again                 a row over a row that is not longer
 --   patch-is-lay              a patch is the row of the values written
 --   patch-lay                 a patch inside a row is a patch of the row
---   lay-append, behind        two rows laid one behind the other are the two in one
+--   lay-append, lay-behind    two rows laid one behind the other are the two in one
 --   lay-rest                  a row laid at the front of what lies from a place on
 -- Assumes nothing.
 use mathlib.Core.Path.{_≡_, refl, sym, ap, _∙_}
@@ -235,6 +235,6 @@ unfolding part
 laid-front v l is size fits = rw (is, ← size) (part-lay 0 v l (omega arith))
 
 -- what is laid at a place, and then the rest behind it
-pub behind : (at : ℕ) (v w l : List ℕ) {n : ℕ} {s : List ℕ} → length v ≡ n → s ≡ lay at v l → at + length (v ++ w) ≤ length l
+pub lay-behind : (at : ℕ) (v w l : List ℕ) {n : ℕ} {s : List ℕ} → length v ≡ n → s ≡ lay at v l → at + length (v ++ w) ≤ length l
     → lay (at + n) w s ≡ lay at (v ++ w) l
-behind at v w l e is fits = rw (← e, is) (lay-append at v w l fits)
+lay-behind at v w l e is fits = rw (← e, is) (lay-append at v w l fits)

@@ -5,24 +5,28 @@
 --   rest-of   and where no more are, the next one begins behind them
 --   no-more   where no more bytes come than were wanted, no more are held than are then wanted
 -- Assumes nothing.
-use mathlib.Core.Path.{_≡_, refl, sym, ap, ap₂, _∙_}
+use mathlib.Core.Path.{_≡_, refl, sym, ap, ap₂, _∙_, subst}
+use mathlib.Core.Logic.{_↔_}
 use mathlib.Core.Bool.{Bool, true, false, cond, _||_, _&&_}
 use mathlib.Core.List.{List, [], _∷_, _++_}
-use Prim.Native.Nat.{ℕ, zero, suc, _+_, _*_, _≤_, _<_}
+use Prim.Native.Nat.{ℕ, _+_, _*_, _≤_, _<_}
 use native.Mathlib.Omega.{arith}
 use lib.Dec.{ltb}
 use lib.ListN.{length, getD, take, drop, length-append, length-drop, List·getD-append}
 use lib.Seq.{take-append-le, drop-append-le, drop-append-seam}
 use borrow.Author.Tests.{le-leb, le-ltb, ltb-false}
 use Rattle.refusal.specs.Refusal.{Check, _when_, first, badDegree, outside}
-use Rattle.refusal.proofs.Laws.{neither, hit}
+use Rattle.refusal.proofs.Laws.{neither}
+use Rattle.refusal.proofs.Ladders.{hit}
+use Rattle.refusal.proofs.Keeping.{same-keeps}
 use Rattle.joint.specs.Promises.{Given}
-use Rattle.record.specs.Records.{begins, noMark, outOfRange, degreeIn, rowsIn, columnsIn, sizeIn, stopOf, wanted}
+use Rattle.record.specs.Records.{begins, noMark, outOfRange, degreeIn, rowsIn, columnsIn, sizeIn, stopChecks, stopOf, wanted}
 use Rattle.record.specs.Records.{lengthsIn, limitIn, pointsIn, symbolsIn}
-use Rattle.record.specs.Promises.{recordIn, fresh, AnswersBy, Answers}
+use Rattle.record.specs.Promises.{LineOf, recordIn, fresh, meaning, Answers}
 use Rattle.record.specs.declared.Reply.{Reply}
 use Rattle.record.proofs.Heads.{wants-all}
 use Rattle.record.proofs.Wholes.{whole-of}
+use Rattle.record.proofs.Replies.{Line, stopped}
 
 same-mark : (b rest : List ℕ) → 2 ≤ length b → noMark (b ++ rest) ≡ noMark b
 unfolding noMark begins
@@ -137,18 +141,18 @@ module _ (b : List ℕ) (h : wanted b ≤ length b) where
         λ z. same-record b rest (five m) fresh (whole-of b z .complete),
       ))
 
-same-by : (s number : ℕ) (g g′ : Given) (lent : List ℕ) (r : Reply) (left : List ℕ) → (s ≡ 0 → g ≡ g′)
-    → _≡_ {A = Type 0} (AnswersBy s number g lent r left) (AnswersBy s number g′ lent r left)
-same-by zero number g g′ lent r left e = ap (λ (x : Given). AnswersBy zero number x lent r left) (e refl)
-same-by (suc k) number g g′ lent r left e = refl
-
 pub enough : (number : ℕ) (b rest lent : List ℕ) (r : Reply) (left : List ℕ) → wanted b ≤ length b
-    → _≡_ {A = Type 0} (Answers number (b ++ rest) lent r left) (Answers number b lent r left)
+    → Answers number (b ++ rest) lent r left ↔ Answers number b lent r left
+unfolding stopOf
 enough number [] rest lent r left h = absurd (let z : 2 ≤ 0 = two [] h in omega arith)
 enough number (x ∷ b) rest lent r left h =
-    let same = same-answer (x ∷ b) h rest in
-    ap (λ (s : ℕ). AnswersBy s number (recordIn fresh (x ∷ b ++ rest)) lent r left) (same .0)
-    ∙ same-by (stopOf (x ∷ b)) number (recordIn fresh (x ∷ b ++ rest)) (recordIn fresh (x ∷ b)) lent r left (same .1)
+    let (stop, same) = same-answer (x ∷ b) h rest in
+    let all = x ∷ b ++ rest in (
+      same-keeps (stopChecks all) (stopChecks (x ∷ b)) (stopped number lent) (Line number lent all) (Line number lent (x ∷ b)) stop
+          (λ none l (line, is, e). (line, subst (λ (g : Given). LineOf number g line) (same (sym (none ∙ stop))) is, e)) (meaning r, left),
+      same-keeps (stopChecks (x ∷ b)) (stopChecks all) (stopped number lent) (Line number lent (x ∷ b)) (Line number lent all) (sym stop)
+          (λ none l (line, is, e). (line, subst (λ (g : Given). LineOf number g line) (sym (same (sym none))) is, e)) (meaning r, left),
+    )
 
 module _ (b : List ℕ) (z : stopOf b ≡ 0) where
   pub all-held : wanted b ≤ length b

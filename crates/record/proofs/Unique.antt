@@ -6,17 +6,17 @@
 -- Assumes nothing.
 use mathlib.Core.Path.{_≡_, sym, ap, ap₂, _∙_}
 use mathlib.Core.List.{List, [], _∷_, _++_}
-use Prim.Native.Nat.{ℕ, zero, suc}
+use Prim.Native.Nat.{ℕ}
 use native.Mathlib.Omega.{arith}
-use lib.ListN.{length}
-use Rattle.patch.specs.Parts.{lay}
+use Rattle.refusal.specs.Meaning.{Meaning}
+use Rattle.refusal.proofs.Keeping as keeping
 use Rattle.joint.specs.Promises.{Given, Left, buffers, left}
 use Rattle.joint.proofs.Unique as joint
-use Rattle.record.specs.Records.{stopOf}
+use Rattle.record.specs.Records.{stopChecks}
 use Rattle.record.specs.Lines.{lineOf}
-use Rattle.record.specs.Promises.{LineOf, recordIn, fresh, refusedLine, AnswersBy, Answers, Prints, ends, stops, goes}
+use Rattle.record.specs.Promises.{LineOf, recordIn, fresh, refusedLine, meaning, laid, Answers, Prints, ends, stops, goes}
 use Rattle.record.specs.declared.Reply.{Reply}
-use Rattle.record.specs.declared.Reply.the-variants.{Next}
+use Rattle.record.proofs.Replies.{meaning-faithful, Line, stopped}
 
 module _ (number : ℕ) where
   pub line-unique : (g : Given) (l l′ : List ℕ) → LineOf number g l → LineOf number g l′ → l ≡ l′
@@ -25,19 +25,15 @@ module _ (number : ℕ) where
       (left (h′ .ending) (buffers (h′ .array) (h′ .flags)) (h′ .space)) (h .decodes) (h′ .decodes) in
       h .written ∙ ap (λ (x : Left). lineOf number (x .ending) (x .buffers .flags)) same ∙ sym (h′ .written)
 
-  unique-by : (n : ℕ) (g : Given) (lent : List ℕ) (r r′ : Reply) (o o′ : List ℕ) → AnswersBy n number g lent r o
-      → AnswersBy n number g lent r′ o′ → (r ≡ r′) × (o ≡ o′)
-  unique-by zero g lent r r′ o o′ h h′ =
-      let same : h .0 ≡ h′ .0 = line-unique g (h .0) (h′ .0) (h .1) (h′ .1) in (
-        h .2 ∙ ap (λ (l : List ℕ). Next (length l)) same ∙ sym (h′ .2),
-        h .3 ∙ ap (λ (l : List ℕ). lay 0 l lent) same ∙ sym (h′ .3),
-      )
-  unique-by (suc k) g lent r r′ o o′ h h′ = (h .0 ∙ sym (h′ .0), h .1 ∙ sym (h′ .1))
-
   pub unique : (b lent : List ℕ) (r r′ : Reply) (o o′ : List ℕ) → Answers number b lent r o → Answers number b lent r′ o′
       → (r ≡ r′) × (o ≡ o′)
-  unique [] lent r r′ o o′ h h′ = (h .0 ∙ sym (h′ .0), h .1 ∙ sym (h′ .1))
-  unique (x ∷ b) lent r r′ o o′ h h′ = unique-by (stopOf (x ∷ b)) (recordIn fresh (x ∷ b)) lent r r′ o o′ h h′
+  unique [] lent r r′ o o′ h h′ = (meaning-faithful r r′ (h .0 ∙ sym (h′ .0)), h .1 ∙ sym (h′ .1))
+  unique (x ∷ b) lent r r′ o o′ h h′ =
+      let same = keeping.unique (stopChecks (x ∷ b)) (stopped number lent) (Line number lent (x ∷ b))
+      (λ none l l′ (line, is, e) (line′, is′, e′).
+      e ∙ ap (λ (v : List ℕ). laid 2 v lent) (line-unique (recordIn fresh (x ∷ b)) line line′ is is′) ∙ sym e′)
+      (meaning r, o) (meaning r′, o′) h h′ in
+      (meaning-faithful r r′ (ap (λ (l : Meaning × List ℕ). l .0) same), ap (λ (l : Meaning × List ℕ). l .1) same)
 
 pub prints-unique : {number : ℕ} {b out out′ : List ℕ} → Prints number b out → Prints number b out′ → out ≡ out′
 prints-unique (ends e o) (ends e′ o′) = o ∙ sym o′

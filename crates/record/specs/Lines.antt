@@ -13,6 +13,7 @@ use Prim.Native.Nat.{ℕ, zero, suc, _+_, _/_, _%_}
 use Prim.Native.Char.{code}
 use Prim.Native.String.{String, [] as nil, _∷_ as _then_}
 use lib.Dec.{ltb}
+use Rattle.ending.specs.Endings.{meaning}
 use Rattle.ending.specs.declared.Ending.{Ending}
 use Rattle.ending.specs.declared.Ending.the-variants.{Refused, Corrected, Nothing, Several, Hollow}
 
@@ -36,13 +37,13 @@ word Nothing = ascii "none"
 word (Several t) = ascii "several"
 word (Hollow t) = ascii "hollow"
 
--- 'the detail'; 'For "none" the third field is `-`'
+-- 'the detail'; 'For "none" the third field is `-`': it has no value
+abbrev pub shown : List ℕ → List ℕ
+shown [] = ascii "-"
+shown (v ∷ vs) = decimal v
+
 abbrev pub detail : Ending → List ℕ
-detail (Refused k) = decimal k
-detail (Corrected w) = decimal w
-detail Nothing = ascii "-"
-detail (Several t) = decimal t
-detail (Hollow t) = decimal t
+detail e = shown (meaning e .1)
 
 -- 'Columns and rows are counted from 0', 'in rising order'
 unfoldable pub wrongFrom : ℕ → List ℕ → List ℕ

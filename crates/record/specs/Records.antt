@@ -8,13 +8,15 @@
 --   outOfRange       r or n is out of range
 --   stopChecks       the reasons to stop, in order; stopOf, the number of the first that applies
 --   wanted           how many bytes decide the answer, as far as the bytes so far show
+--   AtMost m n r     r is n, and at most m
+use mathlib.Core.Path.{_≡_}
 use mathlib.Core.Bool.{Bool, true, false, cond, not, _||_, _&&_}
 use mathlib.Core.List.{List, [], _∷_}
-use Prim.Native.Nat.{ℕ, _+_, _*_}
+use Prim.Native.Nat.{ℕ, _+_, _*_, _≤_}
 use lib.Dec.{eqb, ltb, leb}
 use lib.ListN.{length, getD, take, drop}
 use Rattle.refusal.specs.Refusal.{Check, _when_, first, badDegree, outside}
-use Rattle.mark.specs.Code.{Code, codeOf}
+use Rattle.codes.specs.Code.{Code, codeOf}
 
 -- 'Each record begins with the two bytes 42 4D (hex).'
 abbrev pub mark : List ℕ
@@ -79,3 +81,8 @@ stopOf b = first (stopChecks b)
 -- two bytes tell the mark, five the size, and then there is the rest
 unfoldable pub wanted : List ℕ → ℕ
 wanted b = cond (ltb (length b) 2 || noMark b) 2 (cond (ltb (length b) 5 || outOfRange b) 5 (sizeIn b))
+
+-- r is n, and at most m
+pub record AtMost (m n r : ℕ) : Type 0 where
+  pub is : r ≡ n
+  pub most : r ≤ m

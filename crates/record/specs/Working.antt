@@ -1,7 +1,5 @@
--- What the functions inside an answer ask and compute. Of these the promises cite how many bytes are wanted at most, and the room
--- that a reply's line takes.
+-- What the functions inside an answer ask and compute. No promise cites these.
 --
---   AtMost m n r                   r is n, and at most m
 --   Headed b                       b has the five bytes of a head, and r and n are in range
 --   Puts lent at v left r          v is laid in a buffer from `at` on, and r is the place behind it
 --   PutsWithin m lent at v left r  so it is, and r is at most m places further on
@@ -11,7 +9,6 @@
 --   fieldsOf e fs                  the fields of a line behind its number, each behind a space
 --   Decodable b out                b begins with a whole record, and there is room for its line
 --   Decoded number g lent left r   the line of the record whose decoding is given g, at the buffer's front, and its length r
---   roomOf r                       the length of the line of a reply
 use mathlib.Core.Path.{_≡_}
 use mathlib.Core.Bool.{false}
 use mathlib.Core.List.{List, [], _∷_, _++_}
@@ -23,12 +20,6 @@ use Rattle.joint.specs.Promises.{Given}
 use Rattle.record.specs.Records.{outOfRange, stopOf}
 use Rattle.record.specs.Lines.{ascii, decimal, word, detail, wrongColumns, joined}
 use Rattle.record.specs.Promises.{LineOf}
-use Rattle.record.specs.declared.Reply.{Reply}
-use Rattle.record.specs.declared.Reply.the-variants.{End, Last, Next}
-
-pub record AtMost (m n r : ℕ) : Type 0 where
-  pub is : r ≡ n
-  pub most : r ≤ m
 
 pub record Headed (b : List ℕ) : Type 0 where
   pub five : 5 ≤ length b
@@ -65,8 +56,3 @@ pub record Decoded (number : ℕ) (g : Given) (lent left : List ℕ) (r : ℕ) :
   pub of-record : LineOf number g line
   pub puts : Puts lent 0 line left r
   pub most : r ≤ 323
-
-abbrev pub roomOf : Reply → ℕ
-roomOf End = 0
-roomOf (Last n) = n
-roomOf (Next n) = n

@@ -3,10 +3,12 @@ mod parts;
 mod text;
 
 ghost use Rattle.io.specs.Counts.{Counts};
-ghost use Rattle.record.specs.Records.{wanted};
-ghost use Rattle.record.specs.Promises.{Answers, recordIn};
-ghost use Rattle.record.specs.Working.{AtMost, Decodable, Decoded, roomOf};
+ghost use Rattle.refusal.specs.Meaning.{detailOf};
+ghost use Rattle.record.specs.Records.{AtMost, wanted};
+ghost use Rattle.record.specs.Promises.{Answers, meaning, recordIn};
+ghost use Rattle.record.specs.Working.{Decodable, Decoded};
 use ending::Ending;
+use mark::checks::SPACE;
 use mark::checks::wide;
 
 // The answer to what is left of the input: nothing is left; a line, after which reading stops; a line, after which it goes on.
@@ -64,7 +66,7 @@ fn decode(number: u64, bytes: &[u8], out: &mut [u8], space: &mut [u8]) -> usize
 // number laid in the buffer.
 pub fn answer(number: u64, bytes: &[u8], out: &mut [u8; 323]) -> Reply
     ensures { λ r. ⌜ Answers number (now (bytes .entry)) (now (out .entry)) r (now (out .exit)) ⌝ }
-    ensures { λ r. ⌜ Counts (roomOf r) (now (out .exit)) ⌝ }
+    ensures { λ r. ⌜ Counts (detailOf (meaning r)) (now (out .exit)) ⌝ }
 {
     if bytes.len() == 0 {
         return Reply::End;
@@ -73,6 +75,6 @@ pub fn answer(number: u64, bytes: &[u8], out: &mut [u8; 323]) -> Reply
     if k != 0 {
         return Reply::Last(text::put_line(out, number, Ending::Refused(k), &bytes[..0]));
     }
-    let mut space = [0u8; 49152];
+    let mut space = [0u8; SPACE];
     Reply::Next(decode(number, bytes, out, &mut space))
 }

@@ -2,8 +2,8 @@
 ghost use mathlib.Core.Path.{_≡_};
 ghost use Prim.Native.Nat.{_≤_};
 ghost use lib.ListN.{length};
-ghost use Rattle.record.specs.Records.{noMark, outOfRange, sizeIn, stopOf};
-ghost use Rattle.record.specs.Working.{AtMost, Headed};
+ghost use Rattle.record.specs.Records.{AtMost, noMark, outOfRange, sizeIn, stopOf};
+ghost use Rattle.record.specs.Working.{Headed};
 use mark::checks::wide;
 
 // The two bytes that a record begins with, 42 4D.

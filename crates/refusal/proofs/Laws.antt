@@ -1,15 +1,13 @@
--- What a test that fails shows, and how a ladder of checks goes on.
+-- What a test that fails shows.
 --
 --   degrees       a degree that is not bad is 2, 4 or 8
 --   up-to-eight, positive    so it is at most 8, and not 0
 --   field-size    and the field has at most 256 symbols
 --   within, each-within    a number that is not outside lo to hi is lo to hi; each number of a list
 --   inside, each-inside    a symbol that is not outside the field is below 2 ^ d; each symbol of a list
---   hit, miss     the first check applies, or the rest decides
---   clear         where no check applies, the first does not, and no other
 -- Assumes nothing.
 use mathlib.Core.Path.{_≡_, refl}
-use mathlib.Core.Logic.{_⊎_, inl, inr}
+use mathlib.Core.Logic.{_⊎_, inl, inr, ⊎-elim}
 use mathlib.Core.Bool.{Bool, true, false, _||_}
 use mathlib.Core.List.{List, [], _∷_}
 use Prim.Native.Nat.{ℕ, zero, suc, _^_, _≤_, _<_}
@@ -18,7 +16,7 @@ use native.Mathlib.Omega.{arith}
 use lib.ListN.{length, getD}
 use lib.Pow.{pow-mono}
 use borrow.Author.Tests.{ne-eqb, leb-false, ltb-false}
-use Rattle.refusal.specs.Refusal.{Check, _when_, first, badDegree, outside, someOutside, outsideField, someOutsideField}
+use Rattle.refusal.specs.Refusal.{badDegree, outside, someOutside, outsideField, someOutsideField}
 
 no-other : (d : ℕ) → badDegree d ≡ false → (d ≡ 2 → ⊥) → (d ≡ 4 → ⊥) → (d ≡ 8 → ⊥) → ⊥
 unfolding badDegree
@@ -37,20 +35,10 @@ degrees d h = go (ℕ-discrete d 2) (ℕ-discrete d 4) (ℕ-discrete d 8)
     go (no a) (no b) (no c) = absurd (no-other d h a b c)
 
 pub up-to-eight : (d : ℕ) → badDegree d ≡ false → d ≤ 8
-up-to-eight d h = go (degrees d h)
-  where
-    go : (d ≡ 2) ⊎ ((d ≡ 4) ⊎ (d ≡ 8)) → d ≤ 8
-    go (inl e) = omega arith
-    go (inr (inl e)) = omega arith
-    go (inr (inr e)) = omega arith
+up-to-eight d h = ⊎-elim (λ e. omega arith) (⊎-elim (λ e. omega arith) (λ e. omega arith)) (degrees d h)
 
 pub positive : (d : ℕ) → badDegree d ≡ false → 0 < d
-positive d h = go (degrees d h)
-  where
-    go : (d ≡ 2) ⊎ ((d ≡ 4) ⊎ (d ≡ 8)) → 0 < d
-    go (inl e) = omega arith
-    go (inr (inl e)) = omega arith
-    go (inr (inr e)) = omega arith
+positive d h = ⊎-elim (λ e. omega arith) (⊎-elim (λ e. omega arith) (λ e. omega arith)) (degrees d h)
 
 pub field-size : (d : ℕ) → badDegree d ≡ false → 2 ^ d ≤ 256
 field-size d h = pow-mono (up-to-eight d h)
@@ -79,16 +67,3 @@ unfolding someOutsideField
 each-inside d [] h i b = absurd (omega arith)
 each-inside d (a ∷ l) h zero b = inside d a (neither _ (someOutsideField d l) h .0)
 each-inside d (a ∷ l) h (suc i) b = each-inside d l (neither (outsideField d a) (someOutsideField d l) h .1) i (omega arith)
-
-pub hit : (k : ℕ) (b : Bool) (cs : List Check) → b ≡ true → first ((k when b) ∷ cs) ≡ k
-unfolding first
-hit k b cs e = rw e
-
-pub miss : (k : ℕ) (b : Bool) (cs : List Check) → b ≡ false → first ((k when b) ∷ cs) ≡ first cs
-unfolding first
-miss k b cs e = rw e
-
-pub clear : (k : ℕ) (b : Bool) (cs : List Check) → 0 ≡ first ((suc k when b) ∷ cs) → (b ≡ false) × (0 ≡ first cs)
-unfolding first
-clear k true cs h = absurd (omega arith)
-clear k false cs h = (refl, h)

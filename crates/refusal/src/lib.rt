@@ -1,7 +1,8 @@
 // The tests behind the refusals, each a function whose contract is its test.
 ghost use mathlib.Core.Path.{_≡_};
 ghost use Prim.Native.Nat.{_≤_};
-ghost use Rattle.refusal.specs.Refusal.{badColumns, badDegree, badPoints, outside, outsideField, repeated, someOutside, someOutsideField};
+ghost use Rattle.refusal.specs.Refusal.{badColumns, badDegree, badPoints, repeated};
+ghost use Rattle.refusal.specs.Refusal.{outside, outsideField, someOutside, someOutsideField};
 
 // For the crates above: number 1 applies, the degree is not 2, 4 or 8.
 pub fn bad_degree(degree: u32) -> bool

@@ -10,8 +10,8 @@ use Prim.Native.Nat.{ℕ, zero, suc, _≤_}
 use native.Mathlib.Omega.{arith}
 use lib.ListN.{length, take, replicate, length-replicate}
 use Rattle.refusal.specs.Refusal.{isIn}
-use Rattle.mark.specs.Code.{flag, flagsFrom}
-use Rattle.mark.specs.Lost.{lostFlags}
+use Rattle.codes.specs.Code.{flag, flagsFrom}
+use Rattle.codes.specs.Lost.{lostFlags}
 use Rattle.finish.specs.Working.{zerosIn}
 use Rattle.finish.proofs.Marks.{zeros-count, put-count}
 use Rattle.remaining.specs.Working.{merged, toFill}

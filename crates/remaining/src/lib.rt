@@ -4,11 +4,10 @@ ghost use Prim.Native.Nat.{ℕ, _*_, _≤_, _<_};
 ghost use lib.ListN.{length, take};
 ghost use Rattle.patch.specs.Parts.{lay};
 ghost use Rattle.poly.specs.Poly.{All};
-ghost use Rattle.mark.specs.Code.{IsArray, codeOf, total};
-ghost use Rattle.mark.specs.Lost.{lostFlags, rightRows};
-ghost use Rattle.mark.proofs.Passed.{Counts};
-ghost use Rattle.mark.proofs.Proper.{Proper};
-ghost use Rattle.mark.proofs.Limits.{Room};
+ghost use Rattle.codes.specs.Code.{codeOf, total};
+ghost use Rattle.codes.specs.Lost.{lostFlags, rightRows};
+ghost use Rattle.codes.proofs.Limits.{Room};
+ghost use Rattle.ending.specs.Working.{Ready, mostCells};
 ghost use Rattle.ending.proofs.Model.{filled};
 ghost use Rattle.finish.specs.Working.{zerosIn};
 ghost use Rattle.remaining.specs.Working.{merged, toFill};
@@ -67,8 +66,8 @@ fn fill_flagged(
     received: &[u8],
     s: &mut [u8],
 )
-    requires { ⌜ Counts (codeOf degree (now points) (now lengths)) × Proper (codeOf degree (now points) (now lengths)) ⌝ }
-    requires { ⌜ IsArray (codeOf degree (now points) (now lengths)) (now received) × (length (now s) ≡ 384) ⌝ }
+    requires { ⌜ Ready (codeOf degree (now points) (now lengths)) (now received) ⌝ }
+    requires { ⌜ (length (now s) ≡ mostCells) ⌝ }
     requires { ⌜ (length (now flags) ≡ length (now points)) × Room (length (now points)) (total (toFill (now flags))) (now lengths) ⌝ }
     ensures { λ _. ⌜ now (s .exit) ≡ lay 0 (filled (codeOf degree (now (points .entry)) (now (lengths .entry))) (now (received .entry)) (toFill (now (flags .entry)))) (now (s .entry)) ⌝ }
 {
@@ -100,8 +99,8 @@ pub fn complete(
     answer: &mut [u8],
     flags: &mut [u8],
 )
-    requires { ⌜ Counts (codeOf degree (now points) (now lengths)) × Proper (codeOf degree (now points) (now lengths)) ⌝ }
-    requires { ⌜ IsArray (codeOf degree (now points) (now lengths)) (now received) × All (λ (i : ℕ). i < length (now points)) (now lost) ⌝ }
+    requires { ⌜ Ready (codeOf degree (now points) (now lengths)) (now received) ⌝ }
+    requires { ⌜ All (λ (i : ℕ). i < length (now points)) (now lost) ⌝ }
     requires { ⌜ (length (now wrong) ≡ total (zerosIn (lostFlags (length (now points)) (now lost))))
         × Room (length (now points)) (total (toFill (merged (lostFlags (length (now points)) (now lost)) (now wrong)))) (now lengths) ⌝ }
     requires { ⌜ (length (now answer) ≡ length (now received)) × (length (now flags) ≡ length (now points)) ⌝ }

@@ -1,78 +1,48 @@
 -- How the calls on rings keep their promises, through the calls on the array.
 --
---   encode-refuses, read-refuses    with the number of the first check that applies
---   encodes              with the word of the message, where none does
---   keeps, kept          the promise of decoding is that of any call with checks
 --   encoded-by           the mark's encoding leaves the message's code array
---   written              whose ring is the word
+--   encoded-array, written    an array whose ring is the word
 --   read-by              what the mark's reading leaves is what reading the ring is to leave
+--   lost-ended           the array's decoding ends by the table, with the space cleared
+--   lost-answer          a corrected answer has q³ symbols
+--   lost-ring-ends       the ring's decoding ends so, with the answer carried back
 -- Assumes nothing.
-use mathlib.Core.Path.{_≡_, sym, ap, _∙_, subst}
-use mathlib.Core.Logic.{inl, inr}
+use mathlib.Core.Path.{_≡_, refl, sym, ap, _∙_, subst}
+use mathlib.Core.Logic.{_↔_, inl, inr}
 use mathlib.Core.List.{List}
-use Prim.Native.Nat.{ℕ, zero, suc, _*_}
+use Prim.Native.Nat.{ℕ, _*_}
+use native.Mathlib.Omega.{arith}
 use lib.ListN.{length}
 use Rattle.refusal.specs.Refusal.{first}
-use Rattle.refusal.specs.Keeping.{By}
-use Rattle.mark.specs.Code.{encoded}
-use Rattle.mark.specs.Promises.{Left, done, refused}
+use Rattle.refusal.proofs.Keeping.{told, same-keeps}
+use Rattle.codes.specs.Code.{IsMessage, encoded}
+use Rattle.codes.specs.Checks as Checks
+use Rattle.mark.specs.Promises.{Left, Found, refused}
 use Rattle.mark.specs.Promises as Mark
-use Rattle.ending.specs.declared.Ending.the-variants.{Refused}
+use Rattle.mark.proofs.Demand2.{encode-done, encode-array}
+use Rattle.ending.specs.Endings.{Buffers}
+use Rattle.ending.specs.declared.Ending.{Ending}
+use Rattle.ending.specs.declared.Ending.the-variants.{Refused, Corrected, Nothing, Several, Hollow}
+use Rattle.finish.specs.Working.{released}
 use Rattle.joint.specs.Promises.{buffers, cleared}
 use Rattle.joint.specs.Promises as Joint
-use Rattle.ring.specs.Ring.{ringCode, ringWord, IsRing, ringOf, ArrayOf}
-use Rattle.ring.specs.Checks.{encodeChecks, readChecks, decodeChecks}
-use Rattle.ring.specs.Promises.{EncodesBy, Encodes, ReadsBy, Reads, Given, RingEnds, DecodesBy, Decodes}
-use Rattle.ring.proofs.Rings.{array-exactly}
-use Rattle.ring.proofs.Words.{ring-word, encoded-ring, message-exactly}
-use Rattle.ring.proofs.Passed.{PassedEncoding, PassedReading, to-encode, to-read}
-
-module _ (q m : ℕ) (given lent : List ℕ) where
-  encode-refused : (j : ℕ) {k : ℕ} → k ≡ j → (k ≡ 0 → ⊥) → EncodesBy j q m given lent (refused k lent)
-  encode-refused zero e n = absurd (n e)
-  encode-refused (suc j) e n = ap (λ (i : ℕ). refused i lent) e
-
-  pub encode-refuses : {k : ℕ} → k ≡ first (encodeChecks q m given lent) → (k ≡ 0 → ⊥) → Encodes q m given lent (refused k lent)
-  encode-refuses = encode-refused (first (encodeChecks q m given lent))
-
-  pub encodes : {w : List ℕ} → 0 ≡ first (encodeChecks q m given lent) → w ≡ ringWord q m given → Encodes q m given lent (done w)
-  encodes e is = rw (← e) (ap done is)
-
-  read-refused : (j : ℕ) {k : ℕ} → k ≡ j → (k ≡ 0 → ⊥) → ReadsBy j q m given lent (refused k lent)
-  read-refused zero e n = absurd (n e)
-  read-refused (suc j) e n = ap (λ (i : ℕ). refused i lent) e
-
-  pub read-refuses : {k : ℕ} → k ≡ first (readChecks q m given lent) → (k ≡ 0 → ⊥) → Reads q m given lent (refused k lent)
-  read-refuses = read-refused (first (readChecks q m given lent))
-
--- the number of the first check of decoding that applies
-abbrev pub firstOf : Given → ℕ
-firstOf g = first (decodeChecks (g .q) (g .m) (g .limit) (g .received) (g .lent .array) (g .lent .flags) (g .space))
-
--- the promise of decoding as that of any call with checks
-abbrev pub KeptBy : ℕ → Given → Joint.Left → Type 0
-KeptBy n g = By n (λ k. Joint.left (Refused k) (g .lent) (g .space))
-    (λ l. RingEnds (g .q) (g .m) (g .limit) (g .received) (g .lent) (l .ending) (l .buffers) × (l .space ≡ cleared (g .space)))
-
-keeps-by : (n : ℕ) (g : Given) (l : Joint.Left) → DecodesBy n g l → KeptBy n g l
-keeps-by zero g l h = h
-keeps-by (suc k) g l h = h
-
-kept-by : (n : ℕ) (g : Given) (l : Joint.Left) → KeptBy n g l → DecodesBy n g l
-kept-by zero g l h = h
-kept-by (suc k) g l h = h
-
-pub keeps : (g : Given) (l : Joint.Left) → Decodes g l → KeptBy (firstOf g) g l
-keeps g = keeps-by (firstOf g) g
-
-pub kept : (g : Given) (l : Joint.Left) → KeptBy (firstOf g) g l → Decodes g l
-kept g = kept-by (firstOf g) g
+use Rattle.joint.specs.Lost.{LostEnds}
+use Rattle.joint.specs.Lost as Joint-lost
+use Rattle.joint.proofs.Lost.{corrected-array}
+use Rattle.hermitian.specs.Ring.{ringCode, ringWord, IsRing, ringOf, ArrayOf}
+use Rattle.hermitian.specs.Checks.{readChecks}
+use Rattle.ring.specs.Promises.{Reads}
+use Rattle.ring.specs.Lost.{LostRingEnds}
+use Rattle.hermitian.proofs.Sizes.{ring-proper}
+use Rattle.hermitian.proofs.Rings.{arrayOf, array-exactly}
+use Rattle.hermitian.proofs.Words.{array-ring, ring-word, encoded-ring, message-exactly}
+use Rattle.hermitian.proofs.Passed.{PassedEncoding, PassedReading, PassedLost, to-encode, to-read, to-lose}
 
 module _ {q m : ℕ} {f w : List ℕ} (p : PassedEncoding q m f w) where
   pub encoded-by : (lent : List ℕ) (left : Left) → length lent ≡ q * q * q → Mark.Encodes (ringCode q m) f lent left
       → left .buffer ≡ encoded (ringCode q m) f
   encoded-by lent left k h =
-      ap (λ (l : Left). l .buffer) (subst (λ (j : ℕ). Mark.EncodesBy j (ringCode q m) f lent left) (to-encode p lent k) h)
+      encode-array (ringCode q m) f lent left h (encode-done (ringCode q m) f lent left h .1 (to-encode p lent k))
 
   pub encoded-array : IsRing q (encoded (ringCode q m) f)
   encoded-array = encoded-ring q m (p .ring .size) (p .ring .order) (p .message)
@@ -80,21 +50,58 @@ module _ {q m : ℕ} {f w : List ℕ} (p : PassedEncoding q m f w) where
   pub written : ringOf q (encoded (ringCode q m) f) ≡ ringWord q m f
   written = sym (ring-word q m (p .ring .size) f)
 
-module _ {q m : ℕ} {w lent : List ℕ} (passes : 0 ≡ first (readChecks q m w lent)) (p : PassedReading q m w lent) where
-  pub read-by : (a : List ℕ) (left : Left) → ArrayOf q w a → Mark.Reads (ringCode q m) a lent left → Reads q m w lent left
-  read-by a left is h = subst (λ (j : ℕ). ReadsBy j q m w lent left) passes
-      (go (subst (λ (j : ℕ). Mark.ReadsBy j (ringCode q m) a lent left) (to-read p a (is .array)) h))
-    where
-      go : Mark.ReadsBy 0 (ringCode q m) a lent left → ReadsBy 0 q m w lent left
-      go (inl (f, i, e, l)) = inl (
-        f,
-        i,
-        message-exactly q m (p .ring .size) (p .ring .order) (p .word) i .1
-            (e ∙ sym (array-exactly q (p .ring .size) (p .word) a .0 is)),
-        l,
-      )
-      go (inr (n, l)) = inr (
-        λ (f, i, e). n
-            (f, i, message-exactly q m (p .ring .size) (p .ring .order) (p .word) i .0 e ∙ array-exactly q (p .ring .size) (p .word) a .0 is),
-        l,
-      )
+module _ {q m : ℕ} {w lent : List ℕ} (passes : 0 ≡ first (readChecks q m w lent)) (p : PassedReading q m w lent) {a : List ℕ}
+    (is : ArrayOf q w a) where
+  abbrev OfArray : Left → Type 0
+  OfArray = Found (IsMessage (ringCode q m)) (encoded (ringCode q m)) a lent
+
+  abbrev OfRing : Left → Type 0
+  OfRing = Found (IsMessage (ringCode q m)) (ringWord q m) w lent
+
+  same : arrayOf q w ≡ a
+  same = array-exactly q (p .ring .size) (p .word) a .0 is
+
+  -- a message has the ring exactly when it has the array
+  exactly : {f : List ℕ} → IsMessage (ringCode q m) f → (ringWord q m f ≡ w) ↔ (encoded (ringCode q m) f ≡ arrayOf q w)
+  exactly = message-exactly q m (p .ring .size) (p .ring .order) (p .word)
+
+  found : (l : Left) → OfArray l → OfRing l
+  found l (inl (f, i, e, d)) = inl (f, i, exactly i .1 (e ∙ sym same), d)
+  found l (inr (n, d)) = inr (λ (f, i, e). n (f, i, exactly i .0 e ∙ same), d)
+
+  pub read-by : (l : Left) → Mark.Reads (ringCode q m) a lent l → Reads q m w lent l
+  read-by = same-keeps (Checks.readChecks (ringCode q m) a lent) (readChecks q m w lent) (refused lent) OfArray OfRing
+      (to-read p a (is .array) ∙ passes) (λ none. found)
+
+module _ {q m τ : ℕ} {L y w f s : List ℕ} (p : PassedLost q m τ L y w f s) {a : List ℕ} (is : ArrayOf q y a) (b : List ℕ) where
+  abbrev Array : Ending → Buffers → Type 0
+  Array = LostEnds (ringCode q m) L a τ (buffers b f)
+
+  pub lost-ended : length b ≡ q * q * q → (l : Joint.Left) → Joint-lost.DecodesLost L (Joint.given (ringCode q m) τ a (buffers b f) s) l
+      → Array (l .ending) (l .buffers) × (l .space ≡ cleared s)
+  lost-ended k l h = told (Checks.lostChecks (ringCode q m) τ L a b f s) (λ n. Joint.left (Refused n) (buffers b f) s)
+      (λ l. Array (l .ending) (l .buffers) × (l .space ≡ cleared s)) l h
+      (λ e d. d)
+      (λ n e d. absurd (omega (arith, to-lose p a b (is .array) k)))
+
+  pub lost-answer : (e : Ending) (left : Buffers) → Array e left → (t : ℕ) → e ≡ Corrected t → IsRing q (left .array)
+  lost-answer e left h t is-t = array-ring q m .0
+      (corrected-array (ringCode q m) L (ring-proper q m (p .word .ring .size) (p .word .ring .order))
+      (subst (λ (e : Ending). Array e left) is-t h))
+
+  -- unless the ending is 'corrected', the ring's buffers stay as lent
+  module _ (b′ f′ w′ : List ℕ) where
+    abbrev Back : Ending → Type 0
+    Back e = buffers w′ f′ ≡ released e (buffers (ringOf q b′) f′) (buffers w f′)
+
+    as-lent : buffers b′ f′ ≡ buffers b f → buffers w′ f′ ≡ buffers w f′ → buffers w′ f′ ≡ buffers w f
+    as-lent e k = k ∙ ap (λ (l : Buffers). buffers w (l .flags)) e
+
+    pub lost-ring-ends : (e : Ending) → Array e (buffers b′ f′) → Back e → LostRingEnds q m τ L y (buffers w f) e (buffers w′ f′)
+    lost-ring-ends (Refused k) h k′ = absurd h
+    lost-ring-ends (Corrected t) h k = record { array = a; is-array = is; answer = buffers b′ f′; ends = h; back = k }
+    lost-ring-ends Nothing h k = record { array = a; is-array = is; answer = buffers w f; ends = (h .0, refl); back = as-lent (h .1) k }
+    lost-ring-ends (Several t) h k =
+        record { array = a; is-array = is; answer = buffers w f; ends = (h .0, h .1, refl); back = as-lent (h .2) k }
+    lost-ring-ends (Hollow t) h k =
+        record { array = a; is-array = is; answer = buffers w f; ends = (h .0, h .1, refl); back = as-lent (h .2) k }

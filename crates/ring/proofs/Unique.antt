@@ -2,67 +2,26 @@
 --
 --   encodes-unique, reads-unique, decodes-unique    two outcomes of one call are equal
 -- Assumes nothing.
-use mathlib.Core.Path.{_≡_, refl, sym, ap, ap₂, _∙_, subst}
-use mathlib.Core.Logic.{inl, inr}
-use mathlib.Core.List.{List}
-use Prim.Native.Nat.{ℕ, zero, suc}
-use Rattle.refusal.specs.Refusal.{first}
-use Rattle.mark.specs.Promises.{Left, done}
-use Rattle.ending.specs.Endings.{Buffers, Ends}
-use Rattle.ending.specs.declared.Ending.{Ending}
-use Rattle.ending.proofs.Unique.{unique}
+use mathlib.Core.Path.{_≡_}
+use mathlib.Core.List.{List, []}
+use Prim.Native.Nat.{ℕ}
+use Rattle.codes.specs.Code.{IsMessage}
+use Rattle.mark.specs.Promises.{Left}
+use Rattle.mark.proofs.Promised.{writes-unique, finds-unique}
 use Rattle.joint.specs.Promises as Joint
-use Rattle.ring.specs.Ring.{ringCode}
-use Rattle.ring.specs.Checks.{encodeChecks, readChecks, decodeChecks}
-use Rattle.ring.specs.Promises.{EncodesBy, Encodes, ReadsBy, Reads, Given, carriedBack, RingEnds, DecodesBy, Decodes}
-use Rattle.ring.proofs.Sizes.{ring-proper}
-use Rattle.ring.proofs.Rings.{array-exactly}
-use Rattle.ring.proofs.Words.{array-ring, one-message}
-use Rattle.ring.proofs.Passed.{PassedReading, reading, PassedDecoding, decoding}
+use Rattle.hermitian.specs.Ring.{ringCode, ringWord}
+use Rattle.hermitian.specs.Checks.{encodeChecks, readChecks}
+use Rattle.ring.specs.Promises.{Encodes, Reads, Given, Decodes}
+use Rattle.hermitian.proofs.Words.{one-message}
+use Rattle.hermitian.proofs.Passed.{reading}
+use Rattle.ring.proofs.Lost.{unique, nothing-lost}
 
-module _ (q m : ℕ) (f lent : List ℕ) {left left′ : Left} where
-  encodes-by : (k : ℕ) → EncodesBy k q m f lent left → EncodesBy k q m f lent left′ → left ≡ left′
-  encodes-by zero e e′ = e ∙ sym e′
-  encodes-by (suc k) e e′ = e ∙ sym e′
+pub encodes-unique : (q m : ℕ) (f lent : List ℕ) (x y : Left) → Encodes q m f lent x → Encodes q m f lent y → x ≡ y
+encodes-unique q m f lent = writes-unique (encodeChecks q m f lent) (ringWord q m f) lent
 
-  pub encodes-unique : Encodes q m f lent left → Encodes q m f lent left′ → left ≡ left′
-  encodes-unique = encodes-by (first (encodeChecks q m f lent))
+pub reads-unique : (q m : ℕ) (w lent : List ℕ) (x y : Left) → Reads q m w lent x → Reads q m w lent y → x ≡ y
+reads-unique q m w lent = finds-unique (readChecks q m w lent) (IsMessage (ringCode q m)) (ringWord q m) w lent
+    (λ none f f′ i i′. let p = reading q m w lent none .ring in one-message q m (p .size) (p .order) i i′)
 
-module _ (q m : ℕ) (w lent : List ℕ) {left left′ : Left} where
-  reads-by : (k : ℕ) → (0 ≡ k → PassedReading q m w lent) → ReadsBy k q m w lent left → ReadsBy k q m w lent left′ → left ≡ left′
-  reads-by zero p (inl (f, i, e, l)) (inl (g, j, d, k)) =
-      l ∙ ap done (one-message q m (p refl .ring .size) (p refl .ring .order) i j (e ∙ sym d)) ∙ sym k
-  reads-by zero p (inl (f, i, e, l)) (inr (n, k)) = absurd (n (f, i, e))
-  reads-by zero p (inr (n, l)) (inl (g, j, d, k)) = absurd (n (g, j, d))
-  reads-by zero p (inr (n, l)) (inr (n′, k)) = l ∙ sym k
-  reads-by (suc k) p e e′ = e ∙ sym e′
-
-  pub reads-unique : Reads q m w lent left → Reads q m w lent left′ → left ≡ left′
-  reads-unique = reads-by (first (readChecks q m w lent)) (reading q m w lent)
-
-module _ (g : Given) where
-  abbrev Passes : Type 0
-  Passes = PassedDecoding (g .q) (g .m) (g .limit) (g .received) (g .lent .array) (g .lent .flags) (g .space)
-
-  ends-unique : Passes → {e e′ : Ending} {left left′ : Buffers} → RingEnds (g .q) (g .m) (g .limit) (g .received) (g .lent) e left
-      → RingEnds (g .q) (g .m) (g .limit) (g .received) (g .lent) e′ left′ → (e ≡ e′) × (left ≡ left′)
-  ends-unique p {e} {e′} h k =
-      let one = array-exactly (g .q) (p .ring .size) (p .received) in
-      let same : h .array ≡ k .array = sym (one (h .array) .0 (h .is-array)) ∙ one (k .array) .0 (k .is-array) in
-      let ends : Ends (ringCode (g .q) (g .m)) (k .array) (g .limit) (g .lent) e (h .answer) =
-      subst (λ (a : List ℕ). Ends (ringCode (g .q) (g .m)) a (g .limit) (g .lent) e (h .answer)) same (h .ends) in
-      let u = unique (ring-proper (g .q) (g .m) (p .ring .size) (p .ring .order)) (array-ring (g .q) (g .m) .1 (k .is-array .array))
-      (g .limit)
-      (p .limit) e e′ (g .lent) (h .answer) (k .answer) ends (k .ends) in
-      (u .0, h .back ∙ ap₂ (carriedBack (g .q)) (u .0) (u .1) ∙ sym (k .back))
-
-  decodes-by : (k : ℕ) → (0 ≡ k → Passes) → {l l′ : Joint.Left} → DecodesBy k g l → DecodesBy k g l′ → l ≡ l′
-  decodes-by zero p h k =
-      let u = ends-unique (p refl) (h .0) (k .0) in
-      λ i. record { ending = u .0 i; buffers = u .1 i; space = (h .1 ∙ sym (k .1)) i }
-  decodes-by (suc k) p h k′ = h ∙ sym k′
-
-  pub decodes-unique : {l l′ : Joint.Left} → Decodes g l → Decodes g l′ → l ≡ l′
-  decodes-unique =
-      decodes-by (first (decodeChecks (g .q) (g .m) (g .limit) (g .received) (g .lent .array) (g .lent .flags) (g .space)))
-      (decoding (g .q) (g .m) (g .limit) (g .received) (g .lent .array) (g .lent .flags) (g .space))
+pub decodes-unique : (g : Given) (l l′ : Joint.Left) → Decodes g l → Decodes g l′ → l ≡ l′
+decodes-unique g l l′ h h′ = unique [] g l l′ (nothing-lost g l .1 h) (nothing-lost g l′ .1 h′)

@@ -5,10 +5,11 @@ ghost use mathlib.Core.List.{List, _++_};
 ghost use Prim.Native.Nat.{ℕ};
 ghost use lib.ListN.{length};
 ghost use Rattle.refusal.specs.Refusal.{first};
-ghost use Rattle.mark.specs.Code.{total};
-ghost use Rattle.mark.specs.Checks.{remainingChecks};
-ghost use Rattle.ring.specs.Ring.{ringCode, ringLengths};
-ghost use Rattle.ring.specs.Checks.{badOrder, badSize, bufferChecks, encodeChecks, lostChecks, readChecks, ringChecks};
+ghost use Rattle.codes.specs.Code.{total};
+ghost use Rattle.codes.specs.Checks.{remainingChecks};
+ghost use Rattle.hermitian.specs.Ring.{ringCode, ringLengths};
+ghost use Rattle.hermitian.specs.Checks.{badOrder, badSize, bufferChecks, encodeChecks, lostChecks, readChecks, ringChecks};
+ghost use Rattle.hermitian.proofs.Passed.{Passed};
 use crate::shape;
 
 // Number 10 applies, q is not 2 or 4.
@@ -45,7 +46,7 @@ fn ring_refusal(q: u32, m: u32) -> u8
 
 // The sum of the message lengths of H(m).
 fn total(q: u32, m: u32) -> usize
-    requires { ⌜ (badSize q ≡ false) × (badOrder q m ≡ false) ⌝ }
+    requires { ⌜ Passed q m ⌝ }
     ensures { λ r. ⌜ r ≡ total (ringLengths q m) ⌝ }
 {
     let ks = shape::lengths(q, m);
@@ -54,7 +55,7 @@ fn total(q: u32, m: u32) -> usize
 
 // The first of the checks 16, 17 and 8 that applies to lost sectors of H(m), 0 where none does.
 fn remaining_refusal(q: u32, m: u32, limit: u32, lost: &[u8]) -> u8
-    requires { ⌜ (badSize q ≡ false) × (badOrder q m ≡ false) ⌝ }
+    requires { ⌜ Passed q m ⌝ }
     ensures { λ r. ⌜ r ≡ first (remainingChecks (ringCode q m) limit (now (lost .entry))) ⌝ }
 {
     let n = shape::side(q);
@@ -120,7 +121,11 @@ pub(crate) fn lost_refusal(
     let n = shape::side(q);
     let sectors = n * n;
     let right = sectors * n;
-    if (received.len() != right) | (answer != right) | (flags != sectors) | (space < 49152) {
+    if (received.len() != right)
+        | (answer != right)
+        | (flags != sectors)
+        | (space < mark::checks::SPACE)
+    {
         return 5;
     }
     if refusal::some_outside_field(q, received) {

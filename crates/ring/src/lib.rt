@@ -1,17 +1,16 @@
 // Hermitian rings: encoding, reading and decoding.
 ghost use mathlib.Core.Path.{_≡_};
-ghost use mathlib.Core.Bool.{false};
 ghost use mathlib.Core.List.{List};
-ghost use Prim.Native.Nat.{ℕ, _*_};
-ghost use lib.ListN.{length};
+ghost use Prim.Native.Nat.{ℕ};
 ghost use Rattle.refusal.specs.Refusal.{first};
 ghost use Rattle.mark.specs.Promises.{left};
 ghost use Rattle.joint.specs.Promises as Joint;
 ghost use Rattle.finish.specs.Working.{released};
-ghost use Rattle.ring.specs.Ring.{IsRing, ringOf, ringWord};
-ghost use Rattle.ring.specs.Checks.{badSize, encodeChecks, lostChecks, readChecks};
+ghost use Rattle.hermitian.specs.Ring.{ringOf, ringWord};
+ghost use Rattle.hermitian.specs.Checks.{encodeChecks, lostChecks, readChecks};
 ghost use Rattle.ring.specs.Promises.{Decodes, Encodes, Reads, given};
 ghost use Rattle.ring.specs.Lost.{DecodesLost, LostRingEnds};
+ghost use Rattle.ring.specs.Working.{AnswerGiven};
 
 mod carry;
 mod checks;
@@ -41,8 +40,7 @@ fn read_word(q: u32, m: u32, word: &[u8], message: &mut [u8]) -> Outcome
     let n = shape::side(q);
     let ks = shape::lengths(q, m);
     let xs = shape::columns(q);
-    let mut array = [0u8; 64];
-    carry::to_array(q, word, &mut array[..word.len()]);
+    let array = carry::array_of(q, word);
     mark::read(q, &ks[..n], &xs[..n * n], &array[..word.len()], message)
 }
 
@@ -72,7 +70,7 @@ pub fn read(q: u32, m: u32, word: &[u8], message: &mut [u8]) -> Outcome
 
 // Carries the answer of the array's decoding back to the ring lent, on `corrected` alone.
 fn carry_back(ending: Ending, q: u32, own: &[u8], answer: &mut [u8])
-    requires { ⌜ (badSize q ≡ false) × (length (now answer) ≡ q * q * q) × ((w : ℕ) → ending ≡ Ending.Corrected w → IsRing q (now own)) ⌝ }
+    requires { ⌜ AnswerGiven ending q (now own) (now answer) ⌝ }
     ensures { λ _. ⌜ ((f : List ℕ) → Joint.buffers (now (answer .exit)) f
         ≡ released ending (Joint.buffers (ringOf q (now (own .entry))) f) (Joint.buffers (now (answer .entry)) f)) ⌝ }
 {
@@ -99,16 +97,15 @@ fn decode_ring(
     space: &mut [u8],
 ) -> Ending
     requires { ⌜ 0 ≡ first (lostChecks q m limit (now lost) (now received) (now answer) (now flags) (now space)) ⌝ }
-    ensures { λ r. ⌜ LostRingEnds q m limit (now (lost .entry)) (now (received .entry)) (Joint.buffers (now (answer .entry)) (now (flags .entry)))
-        r (Joint.buffers (now (answer .exit)) (now (flags .exit)))
+    ensures { λ r. ⌜ LostRingEnds q m limit (now (lost .entry)) (now (received .entry))
+        (Joint.buffers (now (answer .entry)) (now (flags .entry))) r (Joint.buffers (now (answer .exit)) (now (flags .exit)))
         × (now (space .exit) ≡ Joint.cleared (now (space .entry))) ⌝ }
 {
     let n = shape::side(q);
     let ks = shape::lengths(q, m);
     let xs = shape::columns(q);
-    let mut array = [0u8; 64];
+    let array = carry::array_of(q, received);
     let mut own = [0u8; 64];
-    carry::to_array(q, received, &mut array[..received.len()]);
     let ending = joint::decode_lost(
         q,
         &ks[..n],

@@ -2,10 +2,12 @@
 ghost use mathlib.Core.Path.{_≡_};
 ghost use mathlib.Core.Bool.{false};
 ghost use mathlib.Core.List.{flatMap};
-ghost use Prim.Native.Nat.{_*_, _<_};
+ghost use Prim.Native.Nat.{_*_};
 ghost use lib.ListN.{take};
-ghost use Rattle.ring.specs.Ring.{numbers, ringLength, ringLengths, sector};
-ghost use Rattle.ring.specs.Checks.{badOrder, badSize};
+ghost use Rattle.hermitian.specs.Ring.{numbers, ringLength, ringLengths, sector};
+ghost use Rattle.hermitian.specs.Checks.{badSize};
+ghost use Rattle.hermitian.proofs.Passed.{Passed};
+ghost use Rattle.ring.specs.Working.{Row};
 
 // The x of the columns.
 const X: [u8; 16] = [0, 1, 2, 3, 4, 5, 6, 7, 8, 9, 10, 11, 12, 13, 14, 15];
@@ -111,7 +113,7 @@ pub(crate) fn ordinates(q: u32) -> [u8; 64]
 
 // The message length of row j.
 fn length(q: u32, m: u32, j: usize) -> u8
-    requires { ⌜ (badSize q ≡ false) × (badOrder q m ≡ false) × (j < q) ⌝ }
+    requires { ⌜ Row q m j ⌝ }
     ensures { λ r. ⌜ r ≡ ringLength q m j ⌝ }
 {
     ((m as usize - j * (side(q) + 1)) / side(q) + 1) as u8
@@ -119,7 +121,7 @@ fn length(q: u32, m: u32, j: usize) -> u8
 
 // The message lengths of H(m), of which q count.
 pub(crate) fn lengths(q: u32, m: u32) -> [u8; 4]
-    requires { ⌜ (badSize q ≡ false) × (badOrder q m ≡ false) ⌝ }
+    requires { ⌜ Passed q m ⌝ }
     ensures { λ r. ⌜ take q r ≡ ringLengths q m ⌝ }
 {
     let mut ks = [0u8; 4];

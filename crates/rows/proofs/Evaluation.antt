@@ -22,34 +22,35 @@ use Rattle.patch.proofs.Laws.{length-patch}
 use Rattle.patch.proofs.Parts.{length-lay, lay-inside, lay-again, patch-is-lay}
 use Rattle.refusal.specs.Refusal.{badDegree}
 use Rattle.field.specs.Symbols.{IsSymbol, plus, times}
-use Rattle.lists.specs.Lists.{multiplied, multipliedAt, SymbolsAt}
+use Rattle.lists.specs.Working.Lists.{multiplied, multipliedAt, SymbolsAt}
 use Rattle.field.specs.Arithmetic.{Arithmetic, gf}
+use Rattle.field.specs.Working.Tables.{Lent}
 use Rattle.field.proofs.Laws.{Field}
 use Rattle.field.proofs.Instance.{field}
 use Rattle.poly.specs.Poly.{All, Zero, value, valuesAt}
 use Rattle.poly.proofs.Forms.{newtonValue}
-use Rattle.rows.specs.Rows.{constantAdded, newtonValues}
+use Rattle.rows.specs.Working.Rows.{constantAdded, newtonValues}
 use Rattle.poly.proofs.Ring.{plus-zero, plus-comm, times-zero}
 
 -- ---- values at points, laid in a list
 
-map-at : (f : ℕ → ℕ) (xs : List ℕ) (i : ℕ) → i < length xs → getD (map f xs) i 0 ≡ f (getD xs i 0)
-map-at f [] i h = absurd (omega arith)
-map-at f (x ∷ xs) zero h = refl
-map-at f (x ∷ xs) (suc i) h = map-at f xs i (omega arith)
+getD-map : (f : ℕ → ℕ) (xs : List ℕ) (i : ℕ) → i < length xs → getD (map f xs) i 0 ≡ f (getD xs i 0)
+getD-map f [] i h = absurd (omega arith)
+getD-map f (x ∷ xs) zero h = refl
+getD-map f (x ∷ xs) (suc i) h = getD-map f xs i (omega arith)
 
 module _ (at : ℕ) (xs l : List ℕ) (fits : at + length xs ≤ length l) where
-  map-lay : (f : ℕ → ℕ) {s : List ℕ} → s ≡ lay at (map f xs) l → (i : ℕ) → i < length xs → getD s (at + i) 0 ≡ f (getD xs i 0)
-  map-lay f is i h =
+  getD-lay-map : (f : ℕ → ℕ) {s : List ℕ} → s ≡ lay at (map f xs) l → (i : ℕ) → i < length xs → getD s (at + i) 0 ≡ f (getD xs i 0)
+  getD-lay-map f is i h =
       let size : length (map f xs) ≡ length xs = length-map xs f in
-      rw is (lay-inside at (map f xs) l i (omega arith) (omega arith)) ∙ map-at f xs i h
+      rw is (lay-inside at (map f xs) l i (omega arith) (omega arith)) ∙ getD-map f xs i h
 
-  map-patch : (g f : ℕ → ℕ) {s : List ℕ} → s ≡ patch at (length xs) g l → ((i : ℕ) → i < length xs → g i ≡ f (getD xs i 0))
+  patch-map : (g f : ℕ → ℕ) {s : List ℕ} → s ≡ patch at (length xs) g l → ((i : ℕ) → i < length xs → g i ≡ f (getD xs i 0))
       → s ≡ lay at (map f xs) l
-  map-patch g f is h = is ∙ patch-is-lay at (length xs) g (map f xs) l (length-map xs f) (λ i k. h i k ∙ sym (map-at f xs i k))
+  patch-map g f is h = is ∙ patch-is-lay at (length xs) g (map f xs) l (length-map xs f) (λ i k. h i k ∙ sym (getD-map f xs i k))
 
-  map-again : (g f : ℕ → ℕ) {s : List ℕ} → s ≡ lay at (map g xs) l → lay at (map f xs) s ≡ lay at (map f xs) l
-  map-again g f is =
+  lay-again-map : (g f : ℕ → ℕ) {s : List ℕ} → s ≡ lay at (map g xs) l → lay at (map f xs) s ≡ lay at (map f xs) l
+  lay-again-map g f is =
       let e : length (map g xs) ≡ length xs = length-map xs g in
       let e′ : length (map f xs) ≡ length xs = length-map xs f in
       rw is (lay-again at (map g xs) (map f xs) l (omega arith) (omega arith))
@@ -97,8 +98,8 @@ module _ (d : ℕ) (good : badDegree d ≡ false) (nodes us : List ℕ) (enough 
       ap₂ (λ (i u : ℕ). times d (plus x (getD nodes i 0)) u) two (rw e (rest-less j x (omega arith) k))
 
 -- what evaluation at xs, in l from at on, asks for
-pub record Evaluating (d : ℕ) (xs nodes us l : List ℕ) (at : ℕ) : Type 0 where
-  pub degree : badDegree d ≡ false
+pub record Evaluating (d : ℕ) (t xs nodes us l : List ℕ) (at : ℕ) : Type 0 where
+  pub lent : Lent d t
   pub points : All (IsSymbol d) xs
   pub nodes-in : All (IsSymbol d) nodes
   pub coefficients : All (IsSymbol d) us
@@ -106,13 +107,13 @@ pub record Evaluating (d : ℕ) (xs nodes us l : List ℕ) (at : ℕ) : Type 0 w
   pub enough : length us ≤ length nodes
   pub room : at + length xs ≤ length l
 
-module _ {d : ℕ} {xs nodes us e : List ℕ} {at : ℕ} (g : Evaluating d xs nodes us e at) where
+module _ {d : ℕ} {table xs nodes us e : List ℕ} {at : ℕ} (g : Evaluating d table xs nodes us e at) where
   pub values-start : {s : List ℕ} → s ≡ patch at (length xs) (λ i. 0) e → s ≡ lay at (map (inner d nodes us (length us)) xs) s
   values-start {s} is =
       let f = inner d nodes us (length us) in
       let first : s ≡ lay at (map f xs) e =
-      map-patch at xs e (g .room) (λ i. 0) f is (λ i h. sym (inner-start d (g .degree) nodes us (g .enough) (getD xs i 0))) in
-      first ∙ sym (map-again at xs e (g .room) f f first)
+      patch-map at xs e (g .room) (λ i. 0) f is (λ i h. sym (inner-start d (g .lent .degree) nodes us (g .enough) (getD xs i 0))) in
+      first ∙ sym (lay-again-map at xs e (g .room) f f first)
 
   -- l being the cleared list
   module _ {l : List ℕ} (cleared : l ≡ patch at (length xs) (λ i. 0) e) where
@@ -124,16 +125,16 @@ module _ {d : ℕ} {xs nodes us e : List ℕ} {at : ℕ} (g : Evaluating d xs no
 
     pub values-in : (j : ℕ) {s : List ℕ} → s ≡ lay at (map (inner d nodes us j) xs) l → SymbolsAt d s at (length xs)
     values-in j is i h =
-        rw (map-lay at xs l fits (inner d nodes us j) is i h) (inner-in d (g .degree) nodes us (g .enough) j (getD xs i 0))
+        rw (getD-lay-map at xs l fits (inner d nodes us j) is i h) (inner-in d (g .lent .degree) nodes us (g .enough) j (getD xs i 0))
 
     pub values-step : (j : ℕ) {s t : List ℕ} → 1 < j → j ≤ length us → s ≡ lay at (map (inner d nodes us j) xs) l
         → t ≡ multipliedAt d xs (getD nodes (j - 2) 0) s at (getD us (j - 1) 0) → t ≡ lay at (map (inner d nodes us (j - 1)) xs) l
     unfolding multiplied
     values-step j {s} h k is then =
         let f = inner d nodes us j in
-        map-patch at xs s (values-fit j is) _ _ then
-        (λ i m. inner-less d (g .degree) nodes us (g .enough) j _ (getD s (at + i) 0) h k (map-lay at xs l fits f is i m))
-        ∙ map-again at xs l fits f _ is
+        patch-map at xs s (values-fit j is) _ _ then
+        (λ i m. inner-less d (g .lent .degree) nodes us (g .enough) j _ (getD s (at + i) 0) h k (getD-lay-map at xs l fits f is i m))
+        ∙ lay-again-map at xs l fits f _ is
 
     pub values-end : {j : ℕ} {s t : List ℕ} → j ≡ 1 → s ≡ lay at (map (inner d nodes us j) xs) l
         → t ≡ constantAdded (getD us 0 0) s at (length xs) → t ≡ lay at (newtonValues d nodes us xs) e
@@ -143,10 +144,10 @@ module _ {d : ℕ} {xs nodes us e : List ℕ} {at : ℕ} (g : Evaluating d xs no
         let z : ℕ → ℕ = λ x. 0 in
         let is : s ≡ lay at (map f xs) l = was ∙ ap (λ (i : ℕ). lay at (map (inner d nodes us i) xs) l) one in
         let less : (x : ℕ) → plus (f x) (getD us 0 0) ≡ v x =
-        λ x. rest-less d (g .degree) nodes us (g .enough) 1 x (omega arith) (g .some)
-        ∙ rest-whole d (g .degree) nodes us (g .enough) x in
-        map-patch at xs s (values-fit 1 is) _ v then (λ i m. rw (map-lay at xs l fits f is i m) (less (getD xs i 0)))
-        ∙ (map-again at xs l fits f v is ∙ map-again at xs e (g .room) z v (map-patch at xs e (g .room) _ z cleared (λ i m. refl)))
+        λ x. rest-less d (g .lent .degree) nodes us (g .enough) 1 x (omega arith) (g .some)
+        ∙ rest-whole d (g .lent .degree) nodes us (g .enough) x in
+        patch-map at xs s (values-fit 1 is) _ v then (λ i m. rw (getD-lay-map at xs l fits f is i m) (less (getD xs i 0)))
+        ∙ (lay-again-map at xs l fits f v is ∙ lay-again-map at xs e (g .room) z v (patch-map at xs e (g .room) _ z cleared (λ i m. refl)))
 
 module _ {K : Type 0} (A : Arithmetic K) (𝓕 : Field A) where
   pub zeros : (n : ℕ) → Zero A (replicate n (A .zero))

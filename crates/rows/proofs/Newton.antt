@@ -1,9 +1,9 @@
 -- The coefficients from Newton's form, from the last to the first.
 --
---   lin-at       what stands at a place of c + (x − a)·q
+--   getD-lin       what stands at a place of c + (x − a)·q
 --   lin-row      c + (x − a)·q from a multiple of q that is added to c, q
 --   lin-stored   the same as the code stores it
---   copied       a copy of a part
+--   take-copied  a copy of a part
 --   newtonFrom d nodes us j    the polynomial of the Newton form from coefficient j on
 --   newton-start, newton-step, newton-whole    it begins as nothing, a turn, and the end
 -- Assumes nothing.
@@ -23,7 +23,7 @@ use Rattle.patch.proofs.Parts.{length-lay, lay-inside, lay-below, lay-above, la
 use Rattle.patch.proofs.Parts.{lay-again, length-part, part-lay, laid-front, is-lay}
 use Rattle.refusal.specs.Refusal.{badDegree}
 use Rattle.field.specs.Symbols.{plus, times}
-use Rattle.lists.specs.Lists.{added}
+use Rattle.lists.specs.Working.Lists.{added}
 use Rattle.field.specs.Arithmetic.{gf}
 use Rattle.field.proofs.Instance.{field}
 use Rattle.poly.proofs.Forms.{lin, fromNewton}
@@ -35,13 +35,13 @@ unfoldable pub newtonFrom : ℕ → List ℕ → List ℕ → ℕ → List ℕ
 newtonFrom d nodes us j = fromNewton (gf d) (length us - j) (drop j nodes) (drop j us)
 
 module _ (d : ℕ) (good : badDegree d ≡ false) where
-  lin-at : (a c : ℕ) (q : List ℕ) (k : ℕ) → k ≤ length q
+  getD-lin : (a c : ℕ) (q : List ℕ) (k : ℕ) → k ≤ length q
       → getD (lin (gf d) a c q) k 0 ≡ plus (getD (c ∷ q) k 0) (times d a (getD q k 0))
   unfolding lin
-  lin-at a c [] zero h = sym (rw (times-zero (gf d) (field d good) a) (plus-zero (gf d) (field d good) c))
-  lin-at a c [] (suc k) h = absurd (let z : suc k ≤ 0 = h in omega arith)
-  lin-at a c (b ∷ q) zero h = refl
-  lin-at a c (b ∷ q) (suc k) h = lin-at a b q k (omega arith)
+  getD-lin a c [] zero h = sym (rw (times-zero (gf d) (field d good) a) (plus-zero (gf d) (field d good) c))
+  getD-lin a c [] (suc k) h = absurd (let z : suc k ≤ 0 = h in omega arith)
+  getD-lin a c (b ∷ q) zero h = refl
+  getD-lin a c (b ∷ q) (suc k) h = getD-lin a b q k (omega arith)
 
   lin-row : (at a c : ℕ) (q l : List ℕ) {s t : List ℕ} → at + suc (length q) ≤ length l → s ≡ lay at (c ∷ q) l
       → t ≡ patch at (length q) (added d a q s at) s → t ≡ lay at (lin (gf d) a c q) l
@@ -77,11 +77,11 @@ module _ (d : ℕ) (good : badDegree d ≡ false) where
       inside : (k : ℕ) → k < suc n → Dec (k < n) → getD r (at + k) 0 ≡ getD (lin (gf d) a c q) k 0
       inside k h (yes g) =
           patch-inside at f s n k 0 g (omega (arith, long))
-          ∙ ap₂ plus (stood k h) (times-comm (gf d) (field d good) (getD q k 0) a) ∙ sym (lin-at a c q k (omega arith))
+          ∙ ap₂ plus (stood k h) (times-comm (gf d) (field d good) (getD q k 0) a) ∙ sym (getD-lin a c q k (omega arith))
       inside k h (no g) =
           let end : getD q k 0 ≡ 0 = List·getD-eq-default q 0 (omega arith) in
           patch-above at f s n (at + k) 0 (omega arith) ∙ stood k h
-          ∙ sym (lin-at a c q k (omega arith)
+          ∙ sym (getD-lin a c q k (omega arith)
           ∙ rw (end, times-zero (gf d) (field d good) a) (plus-zero (gf d) (field d good) (getD (c ∷ q) k 0)))
 
   -- the same as the code has it: the polynomial is stored one place up behind c, and a multiple of it added
@@ -90,10 +90,10 @@ module _ (d : ℕ) (good : badDegree d ≡ false) where
   lin-stored at a c q l fits one two = lin-row at a c q l (omega arith) (one ∙ lay-cons at c q l (omega arith)) two
 
 -- m numbers, copied to the front of z
-pub copied : (at m : ℕ) (l z : List ℕ) {p : List ℕ} → m ≤ length z → at + m ≤ length l → p ≡ lay 0 (take (at + m - at) (drop at l)) z
+pub take-copied : (at m : ℕ) (l z : List ℕ) {p : List ℕ} → m ≤ length z → at + m ≤ length l → p ≡ lay 0 (take (at + m - at) (drop at l)) z
     → take m p ≡ part at m l
 unfolding part
-copied at m l z {p} room fits is =
+take-copied at m l z {p} room fits is =
     let q : List ℕ = part at m l in
     let size : length q ≡ m = length-part at m l fits in
     let all : at + m - at ≡ m = omega arith in
@@ -107,9 +107,9 @@ module _ (d : ℕ) (good : badDegree d ≡ false) (nodes us : List ℕ) (enough 
       let e : length us - j ≡ suc (length us - suc j) = omega arith in
       rw (e, drop-cons us j 0 h, drop-cons nodes j 0 (omega arith))
 
-  length-from : (j : ℕ) → j ≤ length us → length (newtonFrom d nodes us j) ≡ length us - j
+  length-newtonFrom : (j : ℕ) → j ≤ length us → length (newtonFrom d nodes us j) ≡ length us - j
   unfolding newtonFrom
-  length-from j h =
+  length-newtonFrom j h =
       length-newton (gf d) (field d good) (length us - j) (drop j nodes) (drop j us) (omega (arith, length-drop j nodes))
       (omega (arith, length-drop j us))
 
@@ -126,7 +126,7 @@ module _ (d : ℕ) (good : badDegree d ≡ false) (nodes us : List ℕ) (enough 
       let e : suc j - 1 ≡ j = omega arith in
       let v : List ℕ = newtonFrom d nodes us (suc j) in
       let w : List ℕ = lin (gf d) (getD nodes j 0) (getD us j 0) v in
-      let short : length v ≡ length us - suc j = length-from (suc j) k in
+      let short : length v ≡ length us - suc j = length-newtonFrom (suc j) k in
       let long : length w ≡ suc (length v) = length-lin (gf d) (field d good) (getD nodes j 0) (getD us j 0) v in
       let row : part at (length us - suc j) s ≡ v = rw (is, ← short) (part-lay at v l (omega arith)) in
       then ∙ rw (e, row, is, newton-cons j (omega arith)) (lay-again at v w l (omega arith) (omega arith))

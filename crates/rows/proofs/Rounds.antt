@@ -9,7 +9,7 @@
 --   round-step      the same of a row that lies in a list
 --   round-symbols   after some rounds the row still has symbols
 --   Reducing        what k rounds of such a row ask for; next-round, round-done: one of them
---   take-patch, front-patch    the front of a list of which a part in it, or beyond its end, is written
+--   take-patch, take-patch-beyond    the front of a list of which a part in it, or beyond its end, is written
 --   front-step, front-symbols    a round that may go on behind the row: the row, and that all are still symbols
 -- Assumes nothing.
 use mathlib.Core.Path.{_≡_, refl, sym, ap, _∙_}
@@ -28,14 +28,15 @@ use Rattle.patch.proofs.Laws.{patch-cong}
 use Rattle.patch.proofs.Parts.{length-part, part-at, length-lay, lay-end, part-lay, patch-is-lay, patch-lay}
 use Rattle.refusal.specs.Refusal.{badDegree}
 use Rattle.field.specs.Symbols.{plus, times, over}
-use Rattle.lists.specs.Lists.{multiplied, SymbolsAt}
+use Rattle.lists.specs.Working.Lists.{multiplied, SymbolsAt}
 use Rattle.field.specs.Arithmetic.{gf}
+use Rattle.field.specs.Working.Tables.{Lent}
 use Rattle.field.proofs.Instance.{field}
 use Rattle.poly.proofs.Forms.{apart, reduce}
 use Rattle.poly.proofs.Ring.{plus-apart, plus-zero, over-unique, times-over, one-times}
 use Rattle.poly.proofs.Roots.{Mem, Distinct}
 use Rattle.poly.proofs.Differences.{length-apart, length-reduce, symbols-reduce}
-use Rattle.rows.specs.Rows.{Points, RoundInverses, Round, inverse, difference, differencesAt}
+use Rattle.rows.specs.Working.Rows.{Points, RoundInverses, Round, inverse, difference, differencesAt}
 use Rattle.rows.proofs.Symbols.{symbol-at, symbol-patch, symbols-part, symbols-lay}
 
 mem-at : (x : ℕ) (xs : List ℕ) (i : ℕ) → i < length xs → x ≡ getD xs i 0 → Mem x xs
@@ -75,13 +76,13 @@ module _ (d : ℕ) (good : badDegree d ≡ false) where
   reduce-more (suc j) (x ∷ xs) (u ∷ us) l h =
       ap (_∷_ u) (reduce-more j xs (apart (gf d) x u xs us) (length-apart (gf d) (field d good) x u xs us (omega arith)) (omega arith))
 
-  apart-at : (x u : ℕ) (xs us : List ℕ) (i : ℕ) → length us ≡ length xs → i < length xs
+  getD-apart : (x u : ℕ) (xs us : List ℕ) (i : ℕ) → length us ≡ length xs → i < length xs
       → getD (apart (gf d) x u xs us) i 0 ≡ over d (plus (getD us i 0) u) (plus (getD xs i 0) x)
   unfolding apart
-  apart-at x u [] us i l h = absurd (omega arith)
-  apart-at x u (y ∷ xs) [] i l h = absurd (omega arith)
-  apart-at x u (y ∷ xs) (v ∷ us) zero l h = refl
-  apart-at x u (y ∷ xs) (v ∷ us) (suc i) l h = apart-at x u xs us i (omega arith) (omega arith)
+  getD-apart x u [] us i l h = absurd (omega arith)
+  getD-apart x u (y ∷ xs) [] i l h = absurd (omega arith)
+  getD-apart x u (y ∷ xs) (v ∷ us) zero l h = refl
+  getD-apart x u (y ∷ xs) (v ∷ us) (suc i) l h = getD-apart x u xs us i (omega arith) (omega arith)
 
   difference-at : (xs us : List ℕ) (j i : ℕ)
       → difference d xs us j i ≡ over d (plus (getD us (suc j + i) 0) (getD us j 0)) (plus (getD xs (suc j + i) 0) (getD xs j 0))
@@ -97,7 +98,7 @@ module _ (d : ℕ) (good : badDegree d ≡ false) where
       let size : length zs ≡ length xs - suc j = length-apart (gf d) (field d good) _ _ _ _ same ∙ length-drop (suc j) xs in
       let each : (i : ℕ) → i < length xs - suc j → difference d xs us j i ≡ getD zs i 0 =
       λ i k. difference-at xs us j i
-      ∙ sym (apart-at _ _ _ _ i same (omega (arith, length-drop (suc j) xs)) ∙ rw (getD-drop (suc j) us i 0, getD-drop (suc j) xs i 0)) in
+      ∙ sym (getD-apart _ _ _ _ i same (omega (arith, length-drop (suc j) xs)) ∙ rw (getD-drop (suc j) us i 0, getD-drop (suc j) xs i 0)) in
       rw add-one
       (patch-is-lay (suc j) (length xs - suc j) (difference d xs us j) zs us size each
       ∙ sym (lay-end (suc j) zs us (omega arith)))
@@ -151,45 +152,45 @@ module _ (d : ℕ) (good : badDegree d ≡ false) (at j : ℕ) (xs l w : List �
       ∙ rw (part-at at (length xs) l (j + 1 + i) (omega arith), part-at at (length xs) l j h, add-assoc at (j + 1) i)
 
 -- w being the inverses
-module _ {d : ℕ} {xs : List ℕ} {j : ℕ} {w l : List ℕ} {at : ℕ} (given : Round d xs j w l at) where
+module _ {d : ℕ} {table xs : List ℕ} {j : ℕ} {w l : List ℕ} {at : ℕ} (given : Round d table xs j w l at) where
   pub later-symbols : SymbolsAt d l (at + (j + 1)) (length w)
   later-symbols i k = rw (add-assoc at (j + 1) i) (given .symbols (j + 1 + i) (omega (arith, given .inverses .count)))
 
   pub inverse-symbols : SymbolsAt d w 0 (length w)
   inverse-symbols i k =
-      rw (zero-add i, given .inverses .each i (omega (arith, given .inverses .count))) (inverse-symbol d (given .degree) xs j i)
+      rw (zero-add i, given .inverses .each i (omega (arith, given .inverses .count))) (inverse-symbol d (given .lent .degree) xs j i)
 
   pub round-multiplied : {t : List ℕ} → t ≡ patch (at + (j + 1)) (length w) (multiplied d w 0 l (at + (j + 1)) (getD l (at + j) 0)) l
       → t ≡ differencesAt d xs j l at
   round-multiplied then =
-      let is = multiplied-is d (given .degree) at j xs l w (given .place) (given .points) (given .symbols) (given .inverses .each) in
+      let is = multiplied-is d (given .lent .degree) at j xs l w (given .place) (given .points) (given .symbols) (given .inverses .each) in
       then ∙ rw (given .inverses .count) (patch-cong (at + (j + 1)) (length xs - (j + 1)) _ _ l is)
 
 -- k rounds of the row of l from at on
-pub record Reducing (d : ℕ) (xs : List ℕ) (k : ℕ) (l : List ℕ) (at : ℕ) : Type 0 where
-  pub degree : badDegree d ≡ false
+pub record Reducing (d : ℕ) (t xs : List ℕ) (k : ℕ) (l : List ℕ) (at : ℕ) : Type 0 where
+  pub lent : Lent d t
   pub points : Points d xs
   pub rounds : k ≤ length xs
   pub few : length xs ≤ 96
   pub room : at + length xs ≤ length l
   pub symbols : SymbolsAt d l at (length xs)
 
-module _ {d : ℕ} {xs : List ℕ} {k : ℕ} {l : List ℕ} {at : ℕ} (given : Reducing d xs k l at)
+module _ {d : ℕ} {table xs : List ℕ} {k : ℕ} {l : List ℕ} {at : ℕ} (given : Reducing d table xs k l at)
     {j : ℕ} (more : j < k) {s : List ℕ} (is : s ≡ lay at (reduce (gf d) j xs (part at (length xs) l)) l) where
-  pub next-round : {w : List ℕ} → RoundInverses d xs j w → Round d xs j w s at
+  pub next-round : {w : List ℕ} → RoundInverses d xs j w → Round d table xs j w s at
   next-round inverses = record {
-    degree = given .degree;
+    lent = given .lent;
     points = given .points;
     place = omega (arith, given .rounds);
     room = rw (is, length-lay) (given .room);
-    symbols = round-symbols d (given .degree) at j xs l (given .room) (given .symbols) is;
+    symbols = round-symbols d (given .lent .degree) at j xs l (given .room) (given .symbols) is;
     inverses = inverses;
   }
 
   pub round-done : {t : List ℕ} → t ≡ differencesAt d xs j s at → t ≡ lay at (reduce (gf d) (j + 1) xs (part at (length xs) l)) l
   round-done then =
       let row : List ℕ = part at (length xs) l in
-      round-step d (given .degree) at j xs row l (length-part at (length xs) l (given .room)) (omega (arith, given .rounds))
+      round-step d (given .lent .degree) at j xs row l (length-part at (length xs) l (given .room)) (omega (arith, given .rounds))
       (given .room) is then
 
 take-patch : (n at m : ℕ) (f : ℕ → ℕ) (l : List ℕ) → at + m ≤ n → take n (patch at m f l) ≡ patch at m f (take n l)
@@ -199,11 +200,11 @@ take-patch n at (suc m) f l h =
     take-set-lt n (patch at m f l) (at + m) (f m) (omega arith)
     ∙ ap (λ (s : List ℕ). set s (at + m) (f m)) (take-patch n at m f l (omega arith))
 
-front-patch : (n at m r : ℕ) (f : ℕ → ℕ) (l : List ℕ) → n ≡ at + m → take n (patch at (m + r) f l) ≡ patch at m f (take n l)
+take-patch-beyond : (n at m r : ℕ) (f : ℕ → ℕ) (l : List ℕ) → n ≡ at + m → take n (patch at (m + r) f l) ≡ patch at m f (take n l)
 unfolding patch
-front-patch n at m zero f l e = rw (add-zero m) (take-patch n at m f l (omega arith))
-front-patch n at m (suc r) f l e =
-    rw (add-suc m r) (take-set-le n (patch at (m + r) f l) (at + (m + r)) (f (m + r)) (omega arith) ∙ front-patch n at m r f l e)
+take-patch-beyond n at m zero f l e = rw (add-zero m) (take-patch n at m f l (omega arith))
+take-patch-beyond n at m (suc r) f l e =
+    rw (add-suc m r) (take-set-le n (patch at (m + r) f l) (at + (m + r)) (f (m + r)) (omega arith) ∙ take-patch-beyond n at m r f l e)
 
 -- a round of the row at the front of l that may go on behind it
 module _ (d : ℕ) (good : badDegree d ≡ false) (j : ℕ) (l w : List ℕ) {t : List ℕ}
@@ -218,7 +219,7 @@ module _ (d : ℕ) (good : badDegree d ≡ false) (j : ℕ) (l w : List ℕ) {t 
       let f : ℕ → ℕ = multiplied d w 0 l (j + 1) (getD l j 0) in
       let all : length w ≡ m + (length w - m) = omega arith in
       ap (take n) (then ∙ ap (λ (r : ℕ). patch (j + 1) r f l) all)
-      ∙ front-patch n (j + 1) m (length w - m) f l (omega arith)
+      ∙ take-patch-beyond n (j + 1) m (length w - m) f l (omega arith)
       ∙ patch-cong (j + 1) m f (difference d xs (take n l) j) (take n l)
       (λ i k. rw (zero-add (j + 1), zero-add j) at (multiplied-is d good 0 j xs l w h points symbols each i k))
       ∙ one-more d good j xs us e h is

@@ -2,7 +2,7 @@
 --
 --   front-inverses    the inverses of a round, as the front of a list
 --   no-rounds, more-rounds    the table of all rounds begins empty, and takes a round
---   lent-length, lent-symbols, lent-inverses    what it has of a round, and what is behind that
+--   length-lent, lent-symbols, lent-inverses    what it has of a round, and what is behind that
 --   Sharing, Shared d xs l j s    what k rounds by lent inverses ask for, and what j of them leave
 --   none-shared, next-shared, one-shared    before the first, what one asks for, and what it leaves
 --   sixteens n j      how many symbols round j takes
@@ -23,10 +23,11 @@ use Rattle.patch.proofs.Laws.{length-patch, patch-inside, patch-below, front-at
 use Rattle.refusal.specs.Refusal.{badDegree}
 use Rattle.field.specs.Symbols.{IsSymbol}
 use Rattle.field.specs.Arithmetic.{gf}
-use Rattle.lists.specs.Lists.{multipliedAt, SymbolsAt, Multiplying}
+use Rattle.field.specs.Working.Tables.{Lent}
+use Rattle.lists.specs.Working.Lists.{multipliedAt, SymbolsAt, Multiplying}
 use Rattle.poly.specs.Poly.{All}
 use Rattle.poly.proofs.Forms.{reduce}
-use Rattle.rows.specs.Rows.{Points, RoundInverses, Inverses, inverse}
+use Rattle.rows.specs.Working.Rows.{Points, RoundInverses, Inverses, inverse}
 use Rattle.rows.proofs.Symbols.{symbol-at, symbols-by, symbol-patch}
 use Rattle.rows.proofs.Rounds.{inverse-symbol, front-step, front-symbols}
 
@@ -71,18 +72,18 @@ module _ (d : ℕ) (xs : List ℕ) where
       abbrev lent : List ℕ
       lent = take m (drop (96 * j) ws)
 
-      pub lent-length : length lent ≡ m
-      lent-length = length-take-le m (drop (96 * j) ws) (omega (arith, length-drop (96 * j) ws, all .room))
+      pub length-lent : length lent ≡ m
+      length-lent = length-take-le m (drop (96 * j) ws) (omega (arith, length-drop (96 * j) ws, all .room))
 
-      lent-at : (i : ℕ) → i < m → getD lent i 0 ≡ getD ws (96 * j + i) 0
-      lent-at i g = getD-take m (drop (96 * j) ws) i 0 g ∙ getD-drop (96 * j) ws i 0
+      getD-lent : (i : ℕ) → i < m → getD lent i 0 ≡ getD ws (96 * j + i) 0
+      getD-lent i g = getD-take m (drop (96 * j) ws) i 0 g ∙ getD-drop (96 * j) ws i 0
 
       pub lent-symbols : SymbolsAt d lent 0 (length lent)
-      lent-symbols i g = rw (zero-add i, lent-at i (omega (arith, lent-length)))
-          (symbol-at d ws (96 * j + i) (all .symbols) (omega (arith, lent-length, all .room)))
+      lent-symbols i g = rw (zero-add i, getD-lent i (omega (arith, length-lent)))
+          (symbol-at d ws (96 * j + i) (all .symbols) (omega (arith, length-lent, all .room)))
 
       pub lent-inverses : length xs ≤ j + 1 + m → (i : ℕ) → i < length xs - (j + 1) → getD lent i 0 ≡ inverse d xs j i
-      lent-inverses enough i g = lent-at i (omega arith) ∙ all .each j i h g
+      lent-inverses enough i g = getD-lent i (omega arith) ∙ all .each j i h g
 
     pub fewer-rounds : {m : ℕ} → m ≤ k → Inverses d xs m ws
     fewer-rounds h = record { room = omega (arith, all .room); symbols = all .symbols; each = λ j i g l. all .each j i (omega arith) l }
@@ -107,12 +108,13 @@ sixteens-fit : (n j : ℕ) → j < n → n ≤ 96 → (sixteens n j ≤ 96) × (
 sixteens-fit n j h most = (omega arith, omega arith, omega arith)
 
 -- k rounds of the row at the front of l, by the inverses ws
-pub record Sharing (d : ℕ) (xs : List ℕ) (k : ℕ) (ws l : List ℕ) : Type 0 where
-  pub degree : badDegree d ≡ false
+pub record Sharing (d : ℕ) (t xs : List ℕ) (k : ℕ) (ws l : List ℕ) : Type 0 where
+  pub lent : Lent d t
   pub points : Points d xs
   pub rounds : k ≤ length xs
   pub few : length xs ≤ 96
   pub room : length xs + 15 ≤ length l
+  pub symbols : SymbolsAt d l 0 (length xs + 15)
   pub inverses : Inverses d xs k ws
 
 -- after j of them
@@ -125,7 +127,7 @@ pub none-shared : (d : ℕ) (xs l : List ℕ) → SymbolsAt d l 0 (length xs + 1
 unfolding reduce
 none-shared d xs l symbols = record { long = refl; symbols = symbols; row = refl }
 
-module _ {d : ℕ} {xs : List ℕ} {k : ℕ} {ws l : List ℕ} (given : Sharing d xs k ws l)
+module _ {d : ℕ} {t xs : List ℕ} {k : ℕ} {ws l : List ℕ} (given : Sharing d t xs k ws l)
     {j : ℕ} {s : List ℕ} (turn : Shared d xs l j s) (more : j < k) where
   fit : (sixteens (length xs) j ≤ 96) × (length xs ≤ j + 1 + sixteens (length xs) j) × (j + 1 + sixteens (length xs) j ≤ length xs + 15)
   fit = sixteens-fit (length xs) j (omega (arith, given .rounds)) (given .few)
@@ -134,11 +136,11 @@ module _ {d : ℕ} {xs : List ℕ} {k : ℕ} {ws l : List ℕ} (given : Sharing 
   shared = take (sixteens (length xs) j) (drop (96 * j) ws)
 
   size : length shared ≡ sixteens (length xs) j
-  size = lent-length d xs (given .inverses) j _ more (fit .0)
+  size = length-lent d xs (given .inverses) j _ more (fit .0)
 
   pub next-shared : Multiplying d shared 0 s (j + 1) (getD s j 0)
   next-shared = record {
-    degree = given .degree;
+    degree = given .lent .degree;
     left = pow-pos d;
     right = rw zero-add at (turn .symbols j (omega (arith, given .rounds)));
     room = omega (arith, size, fit .2, given .room, turn .long);
@@ -146,13 +148,14 @@ module _ {d : ℕ} {xs : List ℕ} {k : ℕ} {ws l : List ℕ} (given : Sharing 
     symbols = λ i h. rw zero-add at (turn .symbols (j + 1 + i) (omega (arith, size, fit .2)));
   }
 
-  pub one-shared : {t : List ℕ} → t ≡ multipliedAt d shared 0 s (j + 1) (getD s j 0) → Shared d xs l (j + 1) t
+  pub one-shared : {r : List ℕ} → r ≡ multipliedAt d shared 0 s (j + 1) (getD s j 0) → Shared d xs l (j + 1) r
   one-shared then =
       let inverses = lent-inverses d xs (given .inverses) j _ more (fit .0) (fit .1) in
       record {
         long = ap length then ∙ length-patch _ _ _ _ ∙ turn .long;
-        symbols = front-symbols d (given .degree) j s shared then _ (omega (arith, size, fit .2, given .room, turn .long)) (turn .symbols);
-        row = front-step d (given .degree) j s shared then xs _ (length-take-le _ l (omega (arith, given .room)))
+        symbols = front-symbols d (given .lent .degree) j s shared then _
+            (omega (arith, size, fit .2, given .room, turn .long)) (turn .symbols);
+        row = front-step d (given .lent .degree) j s shared then xs _ (length-take-le _ l (omega (arith, given .room)))
             (omega (arith, given .rounds)) (omega (arith, size, fit .1)) (given .points)
             (λ i h. turn .symbols i (omega arith)) inverses (turn .row);
       }

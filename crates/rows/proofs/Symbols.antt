@@ -5,6 +5,7 @@
 --   symbols-part             a part that has symbols is a list of them
 --   symbols-lay              where a list of symbols was laid there are symbols
 --   symbol-patch             a patch of symbols leaves symbols at every place
+--   symbols-over             a row of symbols laid over symbols
 --   symbols-zeros, symbols-held    zeros are symbols; a row of symbols that is held in an array of zeros
 -- Assumes nothing.
 use mathlib.Core.Path.{_≡_}
@@ -20,7 +21,7 @@ use Rattle.patch.specs.Parts.{part, lay}
 use Rattle.patch.proofs.Laws.{patch-inside, patch-below, patch-above}
 use Rattle.patch.proofs.Parts.{length-part, part-at, lay-inside}
 use Rattle.field.specs.Symbols.{IsSymbol}
-use Rattle.lists.specs.Lists.{SymbolsAt}
+use Rattle.lists.specs.Working.Lists.{SymbolsAt}
 use Rattle.poly.specs.Poly.{All}
 
 module _ (d : ℕ) where
@@ -60,11 +61,16 @@ module _ (d : ℕ) where
   symbols-zeros zero = tt
   symbols-zeros (suc n) = (pow-pos d, symbols-zeros n)
 
+  pub symbols-over : (v l : List ℕ) {m : ℕ} {s : List ℕ} → s ≡ lay 0 v l → length v ≤ length l → m ≤ length l → All (IsSymbol d) v
+      → All (IsSymbol d) l → SymbolsAt d s 0 m
+  unfolding lay
+  symbols-over v l is fits most a b k h =
+      symbol-patch 0 (length v) (λ i. getD v i 0) l is (omega arith) (λ i g. symbol-at v i a g) (0 + k)
+      (symbol-at l (0 + k) b (omega arith))
+
   pub symbols-held : (v : List ℕ) (n : ℕ) {m : ℕ} {s : List ℕ} → s ≡ lay 0 v (replicate n 0) → length v ≤ n → m ≤ n → All (IsSymbol d) v
       → SymbolsAt d s 0 m
-  unfolding lay
-  symbols-held v n is fits most a k h =
+  symbols-held v n is fits most a =
       let zeros : List ℕ = replicate n 0 in
       let size : length zeros ≡ n = length-replicate n 0 in
-      symbol-patch 0 (length v) (λ i. getD v i 0) zeros is (omega arith) (λ i g. symbol-at v i a g) (0 + k)
-      (symbol-at zeros (0 + k) (symbols-zeros n) (omega arith))
+      symbols-over v zeros is (omega arith) (omega arith) a (symbols-zeros n)

@@ -6,11 +6,11 @@ ghost use lib.ListN.{length, take};
 ghost use Rattle.refusal.specs.Refusal.{badDegree};
 ghost use Rattle.field.specs.Symbols.{IsSymbol};
 ghost use Rattle.field.specs.Arithmetic.{gf};
-ghost use Rattle.field.specs.Tables.{IsTable};
-ghost use Rattle.lists.specs.Lists.{SymbolsAt};
+ghost use Rattle.field.specs.Working.Tables.{IsTable};
+ghost use Rattle.lists.specs.Working.Lists.{SymbolsAt};
 ghost use Rattle.poly.specs.Poly.{All};
 ghost use Rattle.poly.proofs.Forms.{reduce};
-ghost use Rattle.rows.specs.Rows.{Points, Inverses};
+ghost use Rattle.rows.specs.Working.Rows.{Points, Inverses};
 use field::tables::Table;
 
 // For the crates above: the inverses of k rounds, those of round j in ws from 96·j on.

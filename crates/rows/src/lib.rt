@@ -9,11 +9,12 @@ ghost use Rattle.patch.specs.Parts.{part, lay};
 ghost use Rattle.refusal.specs.Refusal.{badDegree};
 ghost use Rattle.field.specs.Symbols.{IsSymbol};
 ghost use Rattle.field.specs.Arithmetic.{gf};
-ghost use Rattle.field.specs.Tables.{IsTable};
-ghost use Rattle.lists.specs.Lists.{SymbolsAt};
+ghost use Rattle.field.specs.Working.Tables.{IsTable};
+ghost use Rattle.lists.specs.Working.Lists.{SymbolsAt};
 ghost use Rattle.poly.specs.Poly.{All, valuesAt};
 ghost use Rattle.poly.proofs.Forms.{lin, reduce, fromNewton};
-ghost use Rattle.rows.specs.Rows.{Points, Inverting, Round, invertedAt, differencesAt, constantAdded, newtonValues};
+ghost use Rattle.rows.specs.Working.Rows.{Points, Inverting, Linear, Round};
+ghost use Rattle.rows.specs.Working.Rows.{invertedAt, differencesAt, constantAdded, newtonValues};
 use field::tables;
 use field::tables::Table;
 
@@ -57,8 +58,7 @@ pub fn store(w: &[u8], s: &mut [u8], at: usize)
 
 // The inverses of the differences between the points behind the j-th and the j-th, in w from `at` on.
 fn inverses(table: &Table, degree: u32, points: &[u8], j: usize, w: &mut [u8], at: usize)
-    requires { ⌜ IsTable degree (now table) ⌝ }
-    requires { ⌜ Inverting degree (now points) j (now w) at ⌝ }
+    requires { ⌜ Inverting degree (now table) (now points) j (now w) at ⌝ }
     ensures { λ _. ⌜ now (w .exit) ≡ invertedAt degree (now (points .entry)) j (now (w .entry)) at ⌝ }
 {
     let mut i = 0;
@@ -70,8 +70,7 @@ fn inverses(table: &Table, degree: u32, points: &[u8], j: usize, w: &mut [u8], a
 
 // Round j of the divided differences of the row of s from `at` on, w being the inverses of the round.
 fn round(table: &Table, degree: u32, points: &[u8], j: usize, w: &[u8], s: &mut [u8], at: usize)
-    requires { ⌜ IsTable degree (now table) ⌝ }
-    requires { ⌜ Round degree (now points) j (now w) (now s) at ⌝ }
+    requires { ⌜ Round degree (now table) (now points) j (now w) (now s) at ⌝ }
     ensures { λ _. ⌜ now (s .exit) ≡ differencesAt degree (now (points .entry)) j (now (s .entry)) at ⌝ }
 {
     let b = s[at + j];
@@ -154,8 +153,7 @@ pub fn linear_of(table: &Table, degree: u32, a: u8, c: u8, p: &[u8], s: &mut [u8
 
 // The polynomial p of m coefficients in s from `at` on becomes c + (x − a)·p; w is room for a copy.
 fn linear(table: &Table, degree: u32, a: u8, c: u8, s: &mut [u8], at: usize, m: usize, w: &mut [u8])
-    requires { ⌜ (badDegree degree ≡ false) × IsTable degree (now table) × (a < 2 ^ degree) ⌝ }
-    requires { ⌜ (m ≤ length (now w)) × (at + (m + 1) ≤ length (now s)) ⌝ }
+    requires { ⌜ Linear degree (now table) a (now s) at m (now w) ⌝ }
     ensures { λ _. ⌜ now (s .exit) ≡ lay at (lin (gf degree) a c (part at m (now (s .entry)))) (now (s .entry)) ⌝ }
 {
     store(&s[at..at + m], w, 0);

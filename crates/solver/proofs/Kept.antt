@@ -18,14 +18,13 @@ use Rattle.patch.proofs.Laws.{patch-inside, patch-above}
 use Rattle.refusal.specs.Refusal.{badDegree}
 use Rattle.field.specs.Symbols.{IsSymbol, plus, times}
 use Rattle.field.specs.Arithmetic.{gf}
-use Rattle.lists.specs.Lists.{added}
+use Rattle.lists.specs.Working.Lists.{added}
 use Rattle.field.proofs.Instance.{field}
 use Rattle.poly.specs.Poly.{All}
 use Rattle.poly.proofs.Ring.{plus-zero, times-zero, times-comm}
-use Rattle.basis.proofs.Mix.{mix}
+use Rattle.basis.proofs.Vector.{mix, at-mix, mix-in}
 use Rattle.basis.proofs.Lines.{Line, later, keep}
-use Rattle.basis.proofs.Vector.{at-mix, mix-in}
-use Rattle.solver.specs.Held.{Held}
+use Rattle.solver.specs.Working.Held.{Held}
 use Rattle.solver.proofs.Live.{behind, later-at, later-length, later-all, mix-append, mix-length}
 
 -- what is kept of a line behind the condition at hand

@@ -17,7 +17,7 @@ use Rattle.field.specs.Arithmetic.{Arithmetic}
 use Rattle.field.proofs.Laws.{Field}
 use Rattle.poly.specs.Poly.{All, add, scale}
 use Rattle.poly.proofs.Forms.{lin}
-use Rattle.basis.proofs.Mix.{mix}
+use Rattle.basis.proofs.Vector.{mix}
 use Rattle.basis.proofs.Lines.{later, lifted}
 
 module _ {K : Type 0} where

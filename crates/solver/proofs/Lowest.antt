@@ -11,8 +11,8 @@ use native.Mathlib.Decide.{ℕ-discrete}
 use native.Mathlib.Omega.{arith}
 use lib.ListN.{length, getD, getElem?}
 use Rattle.basis.proofs.Lines.{Line, least, another}
-use Rattle.solver.specs.Held.{blank, LeadsOf}
-use Rattle.solver.specs.Scan.{found, firstLowest, Marks}
+use Rattle.solver.specs.Working.Held.{blank, LeadsOf}
+use Rattle.solver.specs.Working.Scan.{found, firstLowest, Marks}
 use Rattle.solver.proofs.Scanned.{scanned}
 
 pub five : (P : ℕ → Type 0) → P 0 → P 1 → P 2 → P 3 → P 4 → (j : ℕ) → j < 5 → P j

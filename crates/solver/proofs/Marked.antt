@@ -1,7 +1,7 @@
 -- The values of the start on the line of a row: 1 at the conditions of that row, which are a run of them, and 0 elsewhere.
 --
 --   Run at n k v    v is 1 where the place k is among n places from at on, and else 0
---   total-next, total-within    the sum of the first numbers, and of one more: no more than of all
+--   all-counts-next, all-counts-within    the sum of the first numbers, and of one more: no more than of all
 --   marks-run       the values on the line of row t are such a run
 --   marks-in        they are symbols
 -- Assumes nothing.
@@ -17,7 +17,7 @@ use Rattle.field.specs.Arithmetic.{gf}
 use Rattle.field.proofs.Laws.{Field}
 use Rattle.poly.specs.Poly.{All}
 use Rattle.basis.proofs.Lines.{Row, Condition, condition, conditions, unit}
-use Rattle.solver.specs.Start.{total, countsOf}
+use Rattle.solver.specs.Working.Start.{allCounts, countsOf}
 use Rattle.solver.proofs.Live.{behind}
 
 pub record Run (at n k v : ℕ) : Type 0 where
@@ -25,21 +25,21 @@ pub record Run (at n k v : ℕ) : Type 0 where
   pub inside : at ≤ k → k < at + n → v ≡ 1
   pub behind : at + n ≤ k → v ≡ 0
 
-total-more : (ns : List ℕ) (l : ℕ) → l < length ns → total (take l ns) + getD ns l 0 ≡ total (take (suc l) ns)
-total-more [] l lt = absurd (omega arith)
-total-more (n ∷ ns) zero lt = omega arith
-total-more (n ∷ ns) (suc l) lt = omega (arith, total-more ns l (omega arith))
+all-counts-more : (ns : List ℕ) (l : ℕ) → l < length ns → allCounts (take l ns) + getD ns l 0 ≡ allCounts (take (suc l) ns)
+all-counts-more [] l lt = absurd (omega arith)
+all-counts-more (n ∷ ns) zero lt = omega arith
+all-counts-more (n ∷ ns) (suc l) lt = omega (arith, all-counts-more ns l (omega arith))
 
-total-take : (ns : List ℕ) (l : ℕ) → total (take l ns) ≤ total ns
-total-take ns zero = omega arith
-total-take [] (suc l) = omega arith
-total-take (n ∷ ns) (suc l) = omega (arith, total-take ns l)
+all-counts-take : (ns : List ℕ) (l : ℕ) → allCounts (take l ns) ≤ allCounts ns
+all-counts-take ns zero = omega arith
+all-counts-take [] (suc l) = omega arith
+all-counts-take (n ∷ ns) (suc l) = omega (arith, all-counts-take ns l)
 
-pub total-next : (ns : List ℕ) (l : ℕ) → l < length ns → total (take l ns) + getD ns l 0 ≡ total (take (l + 1) ns)
-total-next ns l lt = rw add-one (total-more ns l lt)
+pub all-counts-next : (ns : List ℕ) (l : ℕ) → l < length ns → allCounts (take l ns) + getD ns l 0 ≡ allCounts (take (l + 1) ns)
+all-counts-next ns l lt = rw add-one (all-counts-more ns l lt)
 
-pub total-within : (ns : List ℕ) (l : ℕ) → l < length ns → total (take l ns) + getD ns l 0 ≤ total ns
-total-within ns l lt = omega (arith, total-more ns l lt, total-take ns (suc l))
+pub all-counts-within : (ns : List ℕ) (l : ℕ) → l < length ns → allCounts (take l ns) + getD ns l 0 ≤ allCounts ns
+all-counts-within ns l lt = omega (arith, all-counts-more ns l lt, all-counts-take ns (suc l))
 
 unit-same : (d i : ℕ) → unit (gf d) i i ≡ 1
 unfolding unit
@@ -85,7 +85,7 @@ module _ (d t : ℕ) where
       record { before = λ h. r .before (omega arith); inside = λ h g. r .inside (omega arith) (omega arith); behind = λ h. r .behind (omega arith) }
 
   pub marks-run : (j l : ℕ) (rows : List (Row ℕ)) → t ≡ j + l → (k : ℕ)
-      → Run (total (take l (countsOf rows))) (getD (countsOf rows) l 0) k (getD (marks j rows) k 0)
+      → Run (allCounts (take l (countsOf rows))) (getD (countsOf rows) l 0) k (getD (marks j rows) k 0)
   marks-run j l [] e k = record { before = λ h. refl; inside = λ h g. absurd (omega arith); behind = λ h. refl }
   marks-run j zero (row ∷ rows) e k = go (decLt k (length row))
     where
@@ -107,8 +107,8 @@ module _ (d t : ℕ) where
   marks-run j (suc l) (row ∷ rows) e k = go (decLt k (length row)) (marks-run (suc j) l rows (omega arith) (k - length row))
     where
       go : Dec (k < length row)
-          → Run (total (take l (countsOf rows))) (getD (countsOf rows) l 0) (k - length row) (getD (marks (suc j) rows) (k - length row) 0)
-          → Run (length row + total (take l (countsOf rows))) (getD (countsOf rows) l 0) k (getD (marks j (row ∷ rows)) k 0)
+          → Run (allCounts (take l (countsOf rows))) (getD (countsOf rows) l 0) (k - length row) (getD (marks (suc j) rows) (k - length row) 0)
+          → Run (length row + allCounts (take l (countsOf rows))) (getD (countsOf rows) l 0) k (getD (marks j (row ∷ rows)) k 0)
       go (yes own) r =
           let zero-there : getD (marks j (row ∷ rows)) k 0 ≡ 0 = own-at j row (conditions (suc j) rows) k own ∙ unit-other d j t (omega arith) in
           record { before = λ h. zero-there; inside = λ h g. absurd (omega arith); behind = λ h. zero-there }

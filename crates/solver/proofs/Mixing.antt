@@ -21,12 +21,12 @@ use Rattle.patch.proofs.Parts.{length-part, length-lay}
 use Rattle.refusal.specs.Refusal.{badDegree}
 use Rattle.field.specs.Symbols.{plus, times, over}
 use Rattle.field.specs.Arithmetic.{gf}
-use Rattle.lists.specs.Lists.{added}
+use Rattle.lists.specs.Working.Lists.{added}
 use Rattle.field.proofs.Instance.{field}
 use Rattle.poly.proofs.Ring.{plus-zero, zero-times}
 use Rattle.rows.proofs.Newton as rows
-use Rattle.solver.specs.Slots.{slots, Only, Each}
-use Rattle.solver.specs.Turns.{Copied, mixed-by, mixed}
+use Rattle.solver.specs.Working.Slots.{slots, Only, Each}
+use Rattle.solver.specs.Working.Turns.{Copied, mixed-by, mixed}
 use Rattle.solver.proofs.Slots.{slots-length, slots-at, part-slots, only-cong, only-patch}
 
 module _ (d : ℕ) (ds : List ℕ) (p : ℕ) (w : List ℕ) (at j : ℕ) (l : List ℕ) where
@@ -81,7 +81,7 @@ pub copied : (p at n : ℕ) (l z : List ℕ) {v w : List ℕ} → at + n ≤ 768
 copied p at n l z {v} {w} within fits room is zeroed =
     let size : length (part at n (slots p l)) ≡ n = length-part at n (slots p l) (omega (arith, slots-length p l fits)) in
     let long : length v ≡ length z = rw is (length-lay 0 _ z) in
-    let front : take n v ≡ part at n (slots p l) = rows.copied (768 * p + at) n l z (omega arith) (omega arith) is ∙ part-slots p at n l within fits in
+    let front : take n v ≡ part at n (slots p l) = rows.take-copied (768 * p + at) n l z (omega arith) (omega arith) is ∙ part-slots p at n l within fits in
     let same : take n w ≡ take n v =
     ext-getD 0 _ _ (length-take-le n w (rw (zeroed, length-patch) (omega arith)) ∙ sym (length-take-le n v (omega arith)))
     (λ k lt. let below : k < n = omega (arith, length-take-le n w (rw (zeroed, length-patch) (omega arith))) in

@@ -22,18 +22,16 @@ use Rattle.patch.proofs.Laws.{patch-inside}
 use Rattle.refusal.specs.Refusal.{badDegree}
 use Rattle.field.specs.Symbols.{IsSymbol}
 use Rattle.field.specs.Arithmetic.{gf}
-use Rattle.lists.specs.Lists.{SymbolsAt}
+use Rattle.lists.specs.Working.Lists.{SymbolsAt}
 use Rattle.field.proofs.Instance.{field}
 use Rattle.poly.specs.Poly.{All}
-use Rattle.basis.proofs.Pivot.{lowest}
+use Rattle.basis.proofs.Scan.{lowest, all-left, all-each, found-lowest}
 use Rattle.basis.proofs.Lines.{Line, now}
-use Rattle.basis.proofs.Lists.{all-left, all-each}
 use Rattle.basis.proofs.Vector.{at-in}
-use Rattle.basis.proofs.Lowest.{found-lowest}
-use Rattle.basis.proofs.Lowest
-use Rattle.solver.specs.Slots.{slots}
-use Rattle.solver.specs.Held.{blank, Held, Holds}
-use Rattle.solver.specs.Scan.{found, firstLowest}
+use Rattle.basis.proofs.Scan
+use Rattle.solver.specs.Working.Slots.{slots}
+use Rattle.solver.specs.Working.Held.{blank, Held, HoldsLines}
+use Rattle.solver.specs.Working.Scan.{found, firstLowest}
 use Rattle.solver.proofs.Slots.{slots-at}
 use Rattle.solver.proofs.Scanned.{scanned, line-some}
 use Rattle.solver.proofs.Kept.{after, slot-next, symbols-next}
@@ -64,7 +62,7 @@ pub heads-at : (space : List ℕ) (i n : ℕ) (l : List ℕ) {ds : List ℕ} →
 heads-at space i n l {ds} fits is j lt =
     ap (λ (k : ℕ). getD ds k 0) (sym (zero-add j)) ∙ rw is (patch-inside 0 _ l n j 0 lt (omega arith))
 
-module _ (d C s i : ℕ) (next : i < C) (small : C ≤ 380) {leads space : List ℕ} {es : List (Line ℕ)} (h : Holds d C s i leads space es) where
+module _ (d C s i : ℕ) (next : i < C) (small : C ≤ 380) {leads space : List ℕ} {es : List (Line ℕ)} (h : HoldsLines d C s i leads space es) where
   pub value-at : (j : ℕ) → j < s → getD space (768 * j + i) 0 ≡ now (gf d) (getD es j blank)
   value-at j lt =
       let e : Line ℕ = getD es j blank in
@@ -97,7 +95,7 @@ module _ (d C s i : ℕ) (next : i < C) (small : C ≤ 380) {leads space : List 
 
       pivot-value : getD ds r 0 ≡ 0 → ⊥
       pivot-value z =
-          Lowest.found _ _ _ es (λ (e : Line ℕ). Unit {0}) (all-each _ (λ e. tt) es) pivot pivot-found .1
+          Scan.found _ _ _ es (λ (e : Line ℕ). Unit {0}) (all-each _ (λ e. tt) es) pivot pivot-found .1
           (sym (value-at r lt) ∙ sym (heads r lt) ∙ z)
 
       -- what the functions of a step ask

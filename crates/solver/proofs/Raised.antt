@@ -16,17 +16,16 @@ use Rattle.patch.proofs.Parts.{length-part, part-at, lay-inside, lay-below, lay
 use Rattle.refusal.specs.Refusal.{badDegree}
 use Rattle.field.specs.Symbols.{IsSymbol, plus, times}
 use Rattle.field.specs.Arithmetic.{gf}
-use Rattle.lists.specs.Lists.{multiplied}
+use Rattle.lists.specs.Working.Lists.{multiplied}
 use Rattle.field.proofs.Instance.{field}
 use Rattle.poly.proofs.Ring.{plus-zero, times-zero}
 use Rattle.poly.proofs.Forms.{lin}
 use Rattle.poly.proofs.Division.{length-lin}
-use Rattle.basis.proofs.Mix.{mix}
+use Rattle.basis.proofs.Vector.{mix, at-mix, mix-in}
 use Rattle.basis.proofs.Lines.{Line, later, lifted}
-use Rattle.basis.proofs.Lists.{all-append, all-right}
-use Rattle.basis.proofs.Vector.{at-mix, mix-in}
-use Rattle.solver.specs.Held.{Held}
-use Rattle.solver.specs.Turns.{valued, located, raised}
+use Rattle.basis.proofs.Scan.{all-append, all-right}
+use Rattle.solver.specs.Working.Held.{Held}
+use Rattle.solver.specs.Working.Turns.{valued, located, raised}
 use Rattle.solver.proofs.Live.{behind, lin-mix, lifted-at, lifted-length, lifted-in}
 use Rattle.solver.proofs.Kept.{count-next, slot-next, symbols-next}
 

@@ -22,14 +22,14 @@ use Rattle.patch.proofs.Parts.{length-part, part-at}
 use Rattle.refusal.specs.Refusal.{badDegree}
 use Rattle.field.specs.Symbols.{IsSymbol, plus, times}
 use Rattle.field.specs.Arithmetic.{gf}
-use Rattle.lists.specs.Lists.{multiplied, SymbolsAt}
+use Rattle.lists.specs.Working.Lists.{multiplied, SymbolsAt}
 use Rattle.field.proofs.Instance.{field}
 use Rattle.poly.specs.Poly.{All}
 use Rattle.poly.proofs.Forms.{lin}
 use Rattle.poly.proofs.Division.{length-lin}
 use Rattle.rows.proofs.Symbols.{symbol-at}
-use Rattle.solver.specs.Slots.{slots, Only, Each}
-use Rattle.solver.specs.Turns.{Copied, mixed, valued, located, raised}
+use Rattle.solver.specs.Working.Slots.{slots, Only, Each}
+use Rattle.solver.specs.Working.Turns.{Copied, mixed, valued, located, raised}
 use Rattle.solver.proofs.Slots.{slots-length, slots-at, part-slots, only-cong, only-patch, only-then}
 use Rattle.solver.proofs.Mixing.{mixed-pivot}
 

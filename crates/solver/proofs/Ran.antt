@@ -13,14 +13,14 @@ use lib.ListN.{length, drop, drop-of-length-le}
 use lib.Seq.{drop-cons}
 use Rattle.field.specs.Arithmetic.{gf}
 use Rattle.basis.proofs.Lines.{Line, run}
-use Rattle.solver.specs.Held.{Holds}
-use Rattle.solver.specs.Solver.{Steps, Runs}
+use Rattle.solver.specs.Working.Held.{HoldsLines}
+use Rattle.solver.specs.Working.Solver.{Steps, Runs}
 
 module _ (d : ℕ) (xs : List ℕ) (s : ℕ) (leads₀ space₀ : List ℕ) where
   abbrev pub Left : ℕ → List ℕ → List ℕ → Type 0
   Left i leads space =
-      (es : List (Line ℕ)) → Holds d (length xs) s 0 leads₀ space₀ es
-      → (fs : List (Line ℕ)) × Holds d (length xs) s i leads space fs × (run (gf d) ℕ-discrete s (drop i xs) fs ≡ run (gf d) ℕ-discrete s xs es)
+      (es : List (Line ℕ)) → HoldsLines d (length xs) s 0 leads₀ space₀ es
+      → (fs : List (Line ℕ)) × HoldsLines d (length xs) s i leads space fs × (run (gf d) ℕ-discrete s (drop i xs) fs ≡ run (gf d) ℕ-discrete s xs es)
 
   pub left-all : Left 0 leads₀ space₀
   left-all es h = (es, h, refl)
@@ -40,5 +40,5 @@ module _ (d : ℕ) (xs : List ℕ) (s : ℕ) (leads₀ space₀ : List ℕ) wher
       let whole : fs ≡ run (gf d) ℕ-discrete s xs es = rw done at same in
       rw (← whole) (at-end fs held)
     where
-      at-end : (fs : List (Line ℕ)) → Holds d (length xs) s i leads space fs → Holds d (length xs) s (length xs) leads space fs
+      at-end : (fs : List (Line ℕ)) → HoldsLines d (length xs) s i leads space fs → HoldsLines d (length xs) s (length xs) leads space fs
       at-end fs held = rw e at held

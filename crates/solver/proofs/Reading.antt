@@ -16,15 +16,14 @@ use lib.Seq.{ext-getD}
 use Rattle.patch.specs.Parts.{part}
 use Rattle.patch.proofs.Parts.{length-part, part-at}
 use Rattle.field.specs.Arithmetic.{gf}
-use Rattle.basis.proofs.Lines.{Line, locatorOf}
-use Rattle.basis.proofs.Cut.{cut-length, cut-at}
-use Rattle.solver.specs.Slots.{slots}
-use Rattle.solver.specs.Held.{blank, LeadsOf, Held, Holds}
+use Rattle.basis.proofs.Lines.{Line, locatorOf, cut-length, cut-at}
+use Rattle.solver.specs.Working.Slots.{slots}
+use Rattle.solver.specs.Working.Held.{blank, LeadsOf, Held, HoldsLines}
 use Rattle.solver.proofs.Slots.{part-slots}
 use Rattle.solver.proofs.Scanned.{line-some, line-none}
 use Rattle.solver.proofs.Live.{behind}
 
-module _ {d C s i : ℕ} {leads space : List ℕ} {es : List (Line ℕ)} (h : Holds d C s i leads space es) where
+module _ {d C s i : ℕ} {leads space : List ℕ} {es : List (Line ℕ)} (h : HoldsLines d C s i leads space es) where
   pub holds-leads : LeadsOf leads es
   holds-leads j lt = h .each j (omega (arith, h .count)) .lead
 
@@ -40,7 +39,7 @@ numbered es r g e = go (decLt r (length es))
         let z : _≡_ {A = ℕ} 0 1 = cc in
         absurd (omega arith)
 
-pub locator-held : (d C s : ℕ) {leads space : List ℕ} {es : List (Line ℕ)} → Holds d C s C leads space es → (j t : ℕ) → j < s → C + t < 768
+pub locator-held : (d C s : ℕ) {leads space : List ℕ} {es : List (Line ℕ)} → HoldsLines d C s C leads space es → (j t : ℕ) → j < s → C + t < 768
     → 768 * j + 768 ≤ length space → part (768 * j + C) (t + 1) space ≡ locatorOf (gf d) t (getD es j blank)
 locator-held d C s {leads} {space} {es} h j t lt short room =
     let e : Line ℕ = getD es j blank in

@@ -17,10 +17,9 @@ use native.Mathlib.Omega.{arith}
 use lib.ListN.{length, getD, drop, getElem?, drop-of-length-le}
 use lib.Seq.{drop-cons}
 use Rattle.poly.specs.Poly.{All}
-use Rattle.basis.proofs.Pivot.{better, lowest}
-use Rattle.basis.proofs.Pivot
-use Rattle.basis.proofs.Lists.{Holds}
-use Rattle.solver.specs.Scan.{numbers, found-by, found, leadOf, unmarked, firstLowest}
+use Rattle.basis.proofs.Scan.{better, lowest, IfFound}
+use Rattle.basis.proofs.Scan
+use Rattle.solver.specs.Working.Scan.{numbers, found-by, found, leadOf, unmarked, firstLowest}
 
 module _ (n r : ℕ) where
   some-by : (d : Dec (r < n)) → r < n → found-by n r d ≡ some r
@@ -50,13 +49,13 @@ module _ {L : Type 0} (lead : L → ℕ) {P : L → Type 0} (test : (e : L) → 
   first (yes h) p = absurd (p h)
   first (no h) p = refl
 
-  lower-yes : (p : L) (t : Dec (lead e < lead p)) → lead e < lead p → Pivot.lower lead test p e t ≡ e
-  unfolding Pivot.lower
+  lower-yes : (p : L) (t : Dec (lead e < lead p)) → lead e < lead p → Scan.lower lead test p e t ≡ e
+  unfolding Scan.lower
   lower-yes p (yes h) lt = refl
   lower-yes p (no h) lt = absurd (h lt)
 
-  lower-no : (p : L) (t : Dec (lead e < lead p)) → lead p ≤ lead e → Pivot.lower lead test p e t ≡ p
-  unfolding Pivot.lower
+  lower-no : (p : L) (t : Dec (lead e < lead p)) → lead p ≤ lead e → Scan.lower lead test p e t ≡ p
+  unfolding Scan.lower
   lower-no p (yes h) ge = absurd (omega arith)
   lower-no p (no h) ge = refl
 
@@ -105,14 +104,14 @@ module _ {L : Type 0} (lead : L → ℕ) {P : L → Type 0} (test : (e : L) → 
     Alike j = (number j ≡ lead (get j)) × (P (get j) → Q j) × (Q j → P (get j))
 
     lower-alike : (i j : ℕ) (t : Dec (lead (get j) < lead (get i))) (t′ : Dec (number j < number i)) → Alike i → Alike j
-        → Pivot.lower lead test (get i) (get j) t ≡ get (Pivot.lower number mark i j t′)
-    unfolding Pivot.lower
+        → Scan.lower lead test (get i) (get j) t ≡ get (Scan.lower number mark i j t′)
+    unfolding Scan.lower
     lower-alike i j (yes h) (yes h′) a b = refl
     lower-alike i j (yes h) (no h′) a b = absurd (h′ (rw (a .0, b .0) h))
     lower-alike i j (no h) (yes h′) a b = absurd (h (rw (a .0, b .0) at h′))
     lower-alike i j (no h) (no h′) a b = refl
 
-    better-alike : (best : Option ℕ) (j : ℕ) (t : Dec (P (get j))) (t′ : Dec (Q j)) → Holds Alike best → Alike j
+    better-alike : (best : Option ℕ) (j : ℕ) (t : Dec (P (get j))) (t′ : Dec (Q j)) → IfFound Alike best → Alike j
         → better lead test (Option·map get best) (get j) t ≡ Option·map get (better number mark best j t′)
     unfolding better
     better-alike best j (yes h) (yes h′) a b = refl
@@ -121,18 +120,18 @@ module _ {L : Type 0} (lead : L → ℕ) {P : L → Type 0} (test : (e : L) → 
     better-alike none j (no h) (no h′) a b = refl
     better-alike (some i) j (no h) (no h′) a b = ap some (lower-alike i j (decLt (lead (get j)) (lead (get i))) (decLt (number j) (number i)) a b)
 
-    lower-has : (i j : ℕ) (t : Dec (number j < number i)) → Alike i → Alike j → Alike (Pivot.lower number mark i j t)
-    unfolding Pivot.lower
+    lower-has : (i j : ℕ) (t : Dec (number j < number i)) → Alike i → Alike j → Alike (Scan.lower number mark i j t)
+    unfolding Scan.lower
     lower-has i j (yes h) a b = b
     lower-has i j (no h) a b = a
 
-    better-has : (best : Option ℕ) (j : ℕ) (t : Dec (Q j)) → Holds Alike best → Alike j → Holds Alike (better number mark best j t)
+    better-has : (best : Option ℕ) (j : ℕ) (t : Dec (Q j)) → IfFound Alike best → Alike j → IfFound Alike (better number mark best j t)
     unfolding better
     better-has best j (yes h) a b = a
     better-has none j (no h) a b = b
     better-has (some i) j (no h) a b = lower-has i j (decLt (number j) (number i)) a b
 
-    lowest-alike : (js : List ℕ) (best : Option ℕ) → Holds Alike best → All Alike js
+    lowest-alike : (js : List ℕ) (best : Option ℕ) → IfFound Alike best → All Alike js
         → lowest lead test (Option·map get best) (map get js) ≡ Option·map get (lowest number mark best js)
     unfolding lowest
     lowest-alike [] best a b = refl

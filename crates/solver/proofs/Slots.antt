@@ -18,7 +18,7 @@ use Rattle.patch.specs.Patch.{patch}
 use Rattle.patch.specs.Parts.{part}
 use Rattle.patch.proofs.Laws.{length-patch, patch-inside, patch-below, patch-above}
 use Rattle.patch.proofs.Parts.{length-part, part-at}
-use Rattle.solver.specs.Slots.{slots, Only, Each}
+use Rattle.solver.specs.Working.Slots.{slots, Only, Each}
 
 module _ (j : ℕ) (l : List ℕ) where
   pub slots-length : 768 * j + 768 ≤ length l → length (slots j l) ≡ 768

@@ -15,9 +15,9 @@ use Rattle.field.specs.Symbols.{IsSymbol}
 use Rattle.field.specs.Arithmetic.{gf}
 use Rattle.poly.specs.Poly.{All}
 use Rattle.basis.proofs.Lines.{Row, conditions, start, solve}
-use Rattle.solver.specs.Held.{Holds}
-use Rattle.solver.specs.Start.{total, Starts}
-use Rattle.solver.specs.Solver.{HoldsSome, Runs, RowsAre, Solves}
+use Rattle.solver.specs.Working.Held.{HoldsLines}
+use Rattle.solver.specs.Working.Start.{allCounts, Starts}
+use Rattle.solver.specs.Working.Solver.{HoldsSome, Runs, RowsAre, Solves}
 use Rattle.solver.proofs.Started.{counts-total}
 
 module _ (ns xs us : List ℕ) (rows : List (Row ℕ)) (are : RowsAre ns xs us rows) where
@@ -25,15 +25,15 @@ module _ (ns xs us : List ℕ) (rows : List (Row ℕ)) (are : RowsAre ns xs us r
   points-values =
       sym (ap length (are .values)) ∙ length-map (conditions 0 rows) _ ∙ sym (length-map (conditions 0 rows) _) ∙ ap length (are .points)
 
-  pub all-counted : total ns ≡ length us
+  pub all-counted : allCounts ns ≡ length us
   all-counted =
-      sym (ap total (are .counts)) ∙ counts-total 0 rows ∙ sym (length-map (conditions 0 rows) _) ∙ ap length (are .values)
+      sym (ap allCounts (are .counts)) ∙ counts-total 0 rows ∙ sym (length-map (conditions 0 rows) _) ∙ ap length (are .values)
 
   lines : length ns + 1 ≡ suc (length rows)
   lines = omega (arith, ap length (are .counts), length-map rows (λ (row : Row ℕ). length row))
 
   module _ (d : ℕ) (good : badDegree d ≡ false) (symbols : All (IsSymbol d) us) (leads space : List ℕ) (begin : Starts us ns leads space) where
-    start-holds : Holds d (length xs) (length ns + 1) 0 leads space (start (gf d) (length rows) (conditions 0 rows))
+    start-holds : HoldsLines d (length xs) (length ns + 1) 0 leads space (start (gf d) (length rows) (conditions 0 rows))
     start-holds = rw (lines, ← points-values) (begin d good symbols rows (are .counts) (are .values))
 
     pub start-some : HoldsSome d (length xs) (length ns + 1) 0 leads space

@@ -21,28 +21,27 @@ use Rattle.field.specs.Symbols.{IsSymbol}
 use Rattle.field.specs.Arithmetic.{gf}
 use Rattle.field.proofs.Instance.{field}
 use Rattle.poly.specs.Poly.{All}
-use Rattle.basis.proofs.Lines.{Row, Condition, Line, condition, conditions, unit, startRows, start}
-use Rattle.basis.proofs.Lists.{all-append}
-use Rattle.basis.proofs.Apart.{start-apart}
-use Rattle.solver.specs.Slots.{slots, Only, Each}
-use Rattle.solver.specs.Held.{blank, Held, Holds}
-use Rattle.solver.specs.Start.{total, cleared, firstSlots, rowSlots, rowLine, countsOf, valuesOf, Starts}
+use Rattle.basis.proofs.Lines.{Row, Condition, Line, condition, conditions, unit, startRows, start, start-apart}
+use Rattle.basis.proofs.Scan.{all-append}
+use Rattle.solver.specs.Working.Slots.{slots, Only, Each}
+use Rattle.solver.specs.Working.Held.{blank, Held, HoldsLines}
+use Rattle.solver.specs.Working.Start.{allCounts, zeroLine, firstSlots, rowSlots, rowLine, countsOf, valuesOf, Starts}
 use Rattle.solver.proofs.Slots.{slots-length}
 use Rattle.solver.proofs.Lowest.{five}
 use Rattle.solver.proofs.Live.{behind}
-use Rattle.solver.proofs.Marked.{Run, total-within, marks-run, marks-in}
+use Rattle.solver.proofs.Marked.{Run, all-counts-within, marks-run, marks-in}
 
-cleared-long : (l : List ℕ) → length (cleared l) ≡ length l
-unfolding cleared
+cleared-long : (l : List ℕ) → length (zeroLine l) ≡ length l
+unfolding zeroLine
 cleared-long l = length-patch 0 _ l 768
 
-cleared-at : (l : List ℕ) → length l ≡ 768 → (k : ℕ) → getD (cleared l) k 0 ≡ 0
-unfolding cleared
+cleared-at : (l : List ℕ) → length l ≡ 768 → (k : ℕ) → getD (zeroLine l) k 0 ≡ 0
+unfolding zeroLine
 cleared-at l size k = go (decLt k 768)
   where
-    go : Dec (k < 768) → getD (cleared l) k 0 ≡ 0
-    go (yes lt) = ap (λ (x : ℕ). getD (cleared l) x 0) (sym (zero-add k)) ∙ patch-inside 0 _ l 768 k 0 lt (omega arith)
-    go (no ge) = List·getD-eq-default (cleared l) 0 {n = k} (omega (arith, cleared-long l))
+    go : Dec (k < 768) → getD (zeroLine l) k 0 ≡ 0
+    go (yes lt) = ap (λ (x : ℕ). getD (zeroLine l) x 0) (sym (zero-add k)) ∙ patch-inside 0 _ l 768 k 0 lt (omega arith)
+    go (no ge) = List·getD-eq-default (zeroLine l) 0 {n = k} (omega (arith, cleared-long l))
 
 factor : (s k : ℕ) → 0 < k * s → 0 < k
 factor s zero lt = absurd (omega (arith, zero-mul s))
@@ -58,8 +57,8 @@ nothing zero = refl
 nothing (suc k) = refl
 
 module _ (us l : List ℕ) (size : length l ≡ 768) (short : length us < 768) where
-  below-long : length (lay 0 us (cleared l)) ≡ 768
-  below-long = length-lay 0 us (cleared l) ∙ cleared-long l ∙ size
+  below-long : length (lay 0 us (zeroLine l)) ≡ 768
+  below-long = length-lay 0 us (zeroLine l) ∙ cleared-long l ∙ size
 
   first-at : (k : ℕ) → k < 768 → getD (firstSlots us l) k 0 ≡ getD (us ++ 1 ∷ []) k 0
   unfolding firstSlots
@@ -67,16 +66,16 @@ module _ (us l : List ℕ) (size : length l ≡ 768) (short : length us < 768) w
     where
       go : Dec (k < length us) → Dec (k ≡ length us) → getD (firstSlots us l) k 0 ≡ getD (us ++ 1 ∷ []) k 0
       go (yes h) e =
-          patch-below (length us) _ (lay 0 us (cleared l)) 1 k 0 h
-          ∙ ap (λ (x : ℕ). getD (lay 0 us (cleared l)) x 0) (sym (zero-add k))
-          ∙ lay-inside 0 us (cleared l) k h (omega (arith, cleared-long l)) ∙ sym (List·getD-append us (1 ∷ []) 0 k h)
+          patch-below (length us) _ (lay 0 us (zeroLine l)) 1 k 0 h
+          ∙ ap (λ (x : ℕ). getD (lay 0 us (zeroLine l)) x 0) (sym (zero-add k))
+          ∙ lay-inside 0 us (zeroLine l) k h (omega (arith, cleared-long l)) ∙ sym (List·getD-append us (1 ∷ []) 0 k h)
       go (no h) (yes e) =
           ap (λ (x : ℕ). getD (firstSlots us l) x 0) (e ∙ sym (add-zero (length us)))
-          ∙ patch-inside (length us) _ (lay 0 us (cleared l)) 1 0 0 (omega arith) (omega (arith, below-long))
+          ∙ patch-inside (length us) _ (lay 0 us (zeroLine l)) 1 0 0 (omega arith) (omega (arith, below-long))
           ∙ sym (behind 0 us (1 ∷ []) 0 k (omega arith))
       go (no h) (no e) =
-          patch-above (length us) _ (lay 0 us (cleared l)) 1 k 0 (omega arith)
-          ∙ lay-above 0 us (cleared l) k (omega arith) ∙ cleared-at l size k
+          patch-above (length us) _ (lay 0 us (zeroLine l)) 1 k 0 (omega arith)
+          ∙ lay-above 0 us (zeroLine l) k (omega arith) ∙ cleared-at l size k
           ∙ sym (behind 0 us (1 ∷ []) (k - length us) k (omega arith) ∙ single 1 (k - length us) (omega arith))
 
   held-first : (d s : ℕ) → badDegree d ≡ false → 0 < s → All (IsSymbol d) us
@@ -100,17 +99,17 @@ module _ (at n : ℕ) (vs l : List ℕ) (size : length l ≡ 768) (short : lengt
       where
         go : Dec (k < at) → Dec (k < at + n) → Dec (k < length vs) → getD (rowSlots at n l) k 0 ≡ getD (vs ++ 0 ∷ []) k 0
         go (yes h) g v =
-            patch-below at _ (cleared l) n k 0 h ∙ cleared-at l size k
+            patch-below at _ (zeroLine l) n k 0 h ∙ cleared-at l size k
             ∙ sym (List·getD-append vs (0 ∷ []) 0 k (omega arith) ∙ run k .before h)
         go (no h) (yes g) v =
             ap (λ (x : ℕ). getD (rowSlots at n l) x 0) (omega arith)
-            ∙ patch-inside at _ (cleared l) n (k - at) 0 (omega arith) (omega (arith, cleared-long l))
+            ∙ patch-inside at _ (zeroLine l) n (k - at) 0 (omega arith) (omega (arith, cleared-long l))
             ∙ sym (List·getD-append vs (0 ∷ []) 0 k (omega arith) ∙ run k .inside (omega arith) g)
         go (no h) (no g) (yes v) =
-            patch-above at _ (cleared l) n k 0 (omega arith) ∙ cleared-at l size k
+            patch-above at _ (zeroLine l) n k 0 (omega arith) ∙ cleared-at l size k
             ∙ sym (List·getD-append vs (0 ∷ []) 0 k v ∙ run k .behind (omega arith))
         go (no h) (no g) (no v) =
-            patch-above at _ (cleared l) n k 0 (omega arith) ∙ cleared-at l size k
+            patch-above at _ (zeroLine l) n k 0 (omega arith) ∙ cleared-at l size k
             ∙ sym (behind 0 vs (0 ∷ []) (k - length vs) k (omega arith) ∙ nothing (k - length vs))
 
     held-row : (d s j : ℕ) → badDegree d ≡ false → suc j < s → All (IsSymbol d) vs
@@ -142,7 +141,7 @@ module _ (d : ℕ) (cs : List (Condition ℕ)) where
   rows-length zero j = refl
   rows-length (suc n) j = ap suc (rows-length n (suc j))
 
-pub counts-total : (j : ℕ) (rows : List (Row ℕ)) → total (countsOf rows) ≡ length (conditions j rows)
+pub counts-total : (j : ℕ) (rows : List (Row ℕ)) → allCounts (countsOf rows) ≡ length (conditions j rows)
 counts-total j [] = refl
 counts-total j (row ∷ rows) =
     ap (λ (n : ℕ). length row + n) (counts-total (suc j) rows)
@@ -175,18 +174,18 @@ module _ (d : ℕ) (good : badDegree d ≡ false) (rows : List (Row ℕ)) (leads
         let vs : List ℕ = map (λ (c : Condition ℕ). unit (gf d) (c .row) j) cs in
         let long : length vs ≡ C = length-map cs _ ∙ sym (length-map cs _) in
         let ns : List ℕ = countsOf rows in
-        let fits : total (take j ns) + getD ns j 0 ≤ length vs =
+        let fits : allCounts (take j ns) + getD ns j 0 ≤ length vs =
         omega (
           arith,
-          total-within ns j (omega (arith, length-map rows (λ (row : Row ℕ). length row))),
+          all-counts-within ns j (omega (arith, length-map rows (λ (row : Row ℕ). length row))),
           counts-total 0 rows,
           length-map cs (λ (c : Condition ℕ). unit (gf d) (c .row) j),
         ) in
         rw (others .changed (suc j) (omega arith), first .others (suc j) (omega arith), leading (suc j) (omega arith), ← long)
-        (held-row (total (take j ns)) (getD ns j 0) vs (slots (suc j) l) (size (suc j) (omega arith)) (omega arith) fits
+        (held-row (allCounts (take j ns)) (getD ns j 0) vs (slots (suc j) l) (size (suc j) (omega arith)) (omega arith) fits
         (marks-run d j 0 j rows (sym (zero-add j))) d s j good (omega arith) (marks-in d j (field d good) cs))
 
-    started : Holds d C s 0 leads l′ (start (gf d) (length rows) cs)
+    started : HoldsLines d C s 0 leads l′ (start (gf d) (length rows) cs)
     unfolding start
     started =
         record {

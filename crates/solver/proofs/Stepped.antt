@@ -17,14 +17,13 @@ use Rattle.patch.proofs.Parts.{length-part, part-at}
 use Rattle.refusal.specs.Refusal.{badDegree}
 use Rattle.field.specs.Symbols.{over}
 use Rattle.field.specs.Arithmetic.{gf}
-use Rattle.basis.proofs.Mix.{mix}
-use Rattle.basis.proofs.Pivot.{lowest}
-use Rattle.basis.proofs.Lines.{Line, later, lifted, keep, now, fix-by, fix, step-by, step}
-use Rattle.basis.proofs.Apart.{step-apart, apart-leads}
-use Rattle.solver.specs.Slots.{slots}
-use Rattle.solver.specs.Held.{blank, Held, Holds}
-use Rattle.solver.specs.Scan.{found, firstLowest}
-use Rattle.solver.specs.Turns.{Turned}
+use Rattle.basis.proofs.Vector.{mix}
+use Rattle.basis.proofs.Scan.{lowest}
+use Rattle.basis.proofs.Lines.{Line, later, lifted, keep, now, fix-by, fix, step-by, step, step-apart, apart-leads}
+use Rattle.solver.specs.Working.Slots.{slots}
+use Rattle.solver.specs.Working.Held.{blank, Held, HoldsLines}
+use Rattle.solver.specs.Working.Scan.{found, firstLowest}
+use Rattle.solver.specs.Working.Turns.{Turned}
 use Rattle.solver.proofs.Slots.{slots-length}
 use Rattle.solver.proofs.Scanned.{line-none}
 use Rattle.solver.proofs.Pivoted.{value-at, pivot-line, pivot-found, pivot-lowest}
@@ -38,7 +37,7 @@ map-get f (e ∷ l) z zero lt = refl
 map-get f (e ∷ l) z (suc j) lt = map-get f l z j (omega arith)
 
 module _ (d : ℕ) (points : List ℕ) (s i : ℕ) (next : i < length points) (small : length points ≤ 380)
-    {leads space : List ℕ} {es : List (Line ℕ)} (h : Holds d (length points) s i leads space es)
+    {leads space : List ℕ} {es : List (Line ℕ)} (h : HoldsLines d (length points) s i leads space es)
     (ds : List ℕ) (heads : (j : ℕ) → j < s → getD ds j 0 ≡ getD space (768 * j + i) 0) (r : ℕ) (is : found s r ≡ firstLowest ds leads s)
   where
     abbrev C : ℕ
@@ -50,7 +49,7 @@ module _ (d : ℕ) (points : List ℕ) (s i : ℕ) (next : i < length points) (s
     abbrev xs : List ℕ
     xs = drop (i + 1) points
 
-    pub step-none : s ≤ r → Holds d C s (i + 1) leads space (step (gf d) ℕ-discrete s x xs es)
+    pub step-none : s ≤ r → HoldsLines d C s (i + 1) leads space (step (gf d) ℕ-discrete s x xs es)
     unfolding step step-by
     step-none le =
         let none-found = sym (pivot-line d C s i next small h ds heads r is) ∙ line-none blank es r (omega (arith, h .count)) in
@@ -149,7 +148,7 @@ module _ (d : ℕ) (points : List ℕ) (s i : ℕ) (next : i < length points) (s
         one-found : lowest (λ (e : Line ℕ). e .lead) (λ (e : Line ℕ). ℕ-discrete (now (gf d) e) 0) none es ≡ some p
         one-found = pivot-found d C s i next small h ds heads r is lt
 
-        pub step-some : Holds d C s (i + 1) leads₂ space₂ (step (gf d) ℕ-discrete s x xs es)
+        pub step-some : HoldsLines d C s (i + 1) leads₂ space₂ (step (gf d) ℕ-discrete s x xs es)
         unfolding step step-by fix
         step-some =
             record {

@@ -9,17 +9,21 @@ ghost use Prim.Native.Nat.{_+_, _*_, _≤_, _<_};
 ghost use lib.ListN.{length};
 ghost use Rattle.refusal.specs.Refusal.{badDegree};
 ghost use Rattle.field.specs.Symbols.{IsSymbol};
-ghost use Rattle.field.specs.Tables.{IsTable};
+ghost use Rattle.field.specs.Working.Tables.{IsTable};
 ghost use Rattle.poly.specs.Poly.{All};
-ghost use Rattle.solver.specs.Start.{total, Starts};
-ghost use Rattle.solver.specs.Solver.{HoldsSome, Steps, Runs, SomeRows, Solves};
+ghost use Rattle.solver.specs.Working.Start.{allCounts, Starts};
+ghost use Rattle.solver.specs.Working.Solver.{HoldsSome, Steps, Runs, SomeRows, Solves};
+ghost use Rattle.solver.specs.Working.Slots.{lineSlots};
 use field::tables::Table;
+
+// The slots of a line.
+pub const LINE: usize = 768;
 
 // For the crates above: the lines before the first condition, of rows with these numbers of conditions, the values at which are us,
 // one row after another.
 pub fn start(us: &[u8], counts: &[usize], leads: &mut [usize; 5], space: &mut [u8])
-    requires { ⌜ (length (now us) ≤ 380) × (length (now counts) ≤ 4) × (total (now counts) ≡ length (now us)) ⌝ }
-    requires { ⌜ 768 * (length (now counts) + 1) ≤ length (now space) ⌝ }
+    requires { ⌜ (length (now us) ≤ 380) × (length (now counts) ≤ 4) × (allCounts (now counts) ≡ length (now us)) ⌝ }
+    requires { ⌜ lineSlots * (length (now counts) + 1) ≤ length (now space) ⌝ }
     ensures { λ _. ⌜ Starts (now (us .entry)) (now (counts .entry)) (now (leads .exit)) (now (space .exit)) ⌝ }
 {
     first::first_line(us, space);
@@ -40,7 +44,7 @@ fn step(
     w: &mut [u8],
 )
     requires { ⌜ (badDegree degree ≡ false) × IsTable degree (now table) × All (IsSymbol degree) (now points) ⌝ }
-    requires { ⌜ (i < length (now points)) × (length (now points) ≤ 380) × (0 < lines) × (lines ≤ 5) × (768 * lines ≤ length (now space)) × (784 ≤ length (now w)) ⌝ }
+    requires { ⌜ (i < length (now points)) × (length (now points) ≤ 380) × (0 < lines) × (lines ≤ 5) × (lineSlots * lines ≤ length (now space)) × (784 ≤ length (now w)) ⌝ }
     requires { ⌜ HoldsSome degree (length (now points)) lines i (now leads) (now space) ⌝ }
     ensures { λ _. ⌜ Steps degree (now (points .entry)) lines i (now (leads .entry)) (now (space .entry)) (now (leads .exit)) (now (space .exit)) ⌝ }
 {
@@ -64,7 +68,7 @@ pub fn run(
     space: &mut [u8],
 )
     requires { ⌜ (badDegree degree ≡ false) × IsTable degree (now table) × All (IsSymbol degree) (now points) ⌝ }
-    requires { ⌜ (length (now points) ≤ 380) × (0 < lines) × (lines ≤ 5) × (768 * lines ≤ length (now space)) ⌝ }
+    requires { ⌜ (length (now points) ≤ 380) × (0 < lines) × (lines ≤ 5) × (lineSlots * lines ≤ length (now space)) ⌝ }
     requires { ⌜ HoldsSome degree (length (now points)) lines 0 (now leads) (now space) ⌝ }
     ensures { λ _. ⌜ Runs degree (now (points .entry)) lines (now (leads .entry)) (now (space .entry)) (now (leads .exit)) (now (space .exit)) ⌝ }
 {
@@ -88,7 +92,7 @@ pub fn solve(
     space: &mut [u8],
 )
     requires { ⌜ (badDegree degree ≡ false) × IsTable degree (now table) × All (IsSymbol degree) (now points) × All (IsSymbol degree) (now us) ⌝ }
-    requires { ⌜ (length (now us) ≤ 380) × (length (now counts) ≤ 4) × (768 * (length (now counts) + 1) ≤ length (now space)) ⌝ }
+    requires { ⌜ (length (now us) ≤ 380) × (length (now counts) ≤ 4) × (lineSlots * (length (now counts) + 1) ≤ length (now space)) ⌝ }
     requires { ⌜ SomeRows (now counts) (now points) (now us) ⌝ }
     ensures { λ _. ⌜ Solves degree (now (counts .entry)) (now (points .entry)) (now (us .entry)) (now (leads .exit)) (now (space .exit)) ⌝ }
 {

@@ -4,9 +4,9 @@ ghost use mathlib.Core.List.{List};
 ghost use Prim.Native.Nat.{ℕ, _≤_, _<_};
 ghost use lib.ListN.{length, getElem?};
 ghost use Rattle.basis.proofs.Lines.{Line, least, another};
-ghost use Rattle.basis.proofs.Pivot.{better};
-ghost use Rattle.solver.specs.Held.{LeadsOf};
-ghost use Rattle.solver.specs.Scan.{found, leadOf, unmarked, firstLowest, Marks};
+ghost use Rattle.basis.proofs.Scan.{better};
+ghost use Rattle.solver.specs.Working.Held.{LeadsOf};
+ghost use Rattle.solver.specs.Working.Scan.{found, leadOf, unmarked, firstLowest, Marks};
 
 // The better of the best line so far, `lines` for none, and line j: of the marked ones the first of lowest lead.
 fn better(marks: &[u8; 5], leads: &[usize; 5], lines: usize, best: usize, j: usize) -> usize

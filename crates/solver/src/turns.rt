@@ -7,22 +7,23 @@ ghost use Rattle.patch.specs.Patch.{patch};
 ghost use Rattle.patch.specs.Parts.{part};
 ghost use Rattle.refusal.specs.Refusal.{badDegree};
 ghost use Rattle.field.specs.Symbols.{IsSymbol};
-ghost use Rattle.field.specs.Tables.{IsTable};
-ghost use Rattle.lists.specs.Lists.{SymbolsAt};
+ghost use Rattle.field.specs.Working.Tables.{IsTable};
+ghost use Rattle.lists.specs.Working.Lists.{SymbolsAt};
 ghost use Rattle.poly.specs.Poly.{All};
-ghost use Rattle.solver.specs.Slots.{slots, Only, Each};
-ghost use Rattle.solver.specs.Turns.{Copied, mixed, raised, Turned};
+ghost use Rattle.solver.specs.Working.Slots.{lineSlots, slots, Only, Each};
+ghost use Rattle.solver.specs.Working.Turns.{Copied, mixed, raised, Turned};
+use crate::LINE;
 use field::tables;
 use field::tables::Table;
 
 // The values of the lines at condition i.
 pub(crate) fn heads(space: &[u8], i: usize, lines: usize, ds: &mut [u8; 5])
-    requires { ⌜ (lines ≤ 5) × (i < 768) × (768 * lines ≤ length (now space)) ⌝ }
-    ensures { λ _. ⌜ now (ds .exit) ≡ patch 0 lines (λ j. getD (now (space .entry)) (768 * j + i) 0) (now (ds .entry)) ⌝ }
+    requires { ⌜ (lines ≤ 5) × (i < lineSlots) × (lineSlots * lines ≤ length (now space)) ⌝ }
+    ensures { λ _. ⌜ now (ds .exit) ≡ patch 0 lines (λ j. getD (now (space .entry)) (lineSlots * j + i) 0) (now (ds .entry)) ⌝ }
 {
     let mut j = 0;
     while j < lines {
-        ds[j] = space[768 * j + i];
+        ds[j] = space[LINE * j + i];
         j += 1;
     }
 }
@@ -40,7 +41,7 @@ fn mix_line(
 )
     requires { ⌜ (badDegree degree ≡ false) × IsTable degree (now table) ⌝ }
     requires { ⌜ (p < 5) × (j < 5) × (getD (now ds) j 0 < 2 ^ degree) × (getD (now ds) p 0 < 2 ^ degree) × (getD (now ds) p 0 ≡ 0 → ⊥) ⌝ }
-    requires { ⌜ (at + length (now w) ≤ 768) × (768 * j + 768 ≤ length (now space)) ⌝ }
+    requires { ⌜ (at + length (now w) ≤ lineSlots) × (lineSlots * j + lineSlots ≤ length (now space)) ⌝ }
     ensures { λ _. ⌜ Only j (mixed degree (now (ds .entry)) p (now (w .entry)) at j) (now (space .entry)) (now (space .exit)) ⌝ }
 {
     if j == p {
@@ -50,7 +51,7 @@ fn mix_line(
         return;
     }
     let c = tables::quotient_from(table, degree, ds[j], ds[p]);
-    lists::add_times(table, degree, c, w, space, 768 * j + at);
+    lists::add_times(table, degree, c, w, space, LINE * j + at);
 }
 
 // Adds to every other line the multiple of the pivot that takes its value away.
@@ -66,7 +67,7 @@ fn mix_lines(
 )
     requires { ⌜ (badDegree degree ≡ false) × IsTable degree (now table) ⌝ }
     requires { ⌜ (p < lines) × (lines ≤ 5) × SymbolsAt degree (now ds) 0 lines × (getD (now ds) p 0 ≡ 0 → ⊥) ⌝ }
-    requires { ⌜ (at + length (now w) ≤ 768) × (768 * lines ≤ length (now space)) ⌝ }
+    requires { ⌜ (at + length (now w) ≤ lineSlots) × (lineSlots * lines ≤ length (now space)) ⌝ }
     ensures { λ _. ⌜ Each lines (mixed degree (now (ds .entry)) p (now (w .entry)) at) (now (space .entry)) (now (space .exit)) ⌝ }
 {
     let mut j = 0;
@@ -78,19 +79,19 @@ fn mix_lines(
 
 // How many slots to take from slot `at` on: n, and more so that they are whole sixteens, if the line has them.
 fn whole(at: usize, n: usize) -> usize
-    requires { ⌜ at + n ≤ 768 ⌝ }
-    ensures { λ r. ⌜ (n ≤ r) × (r ≤ n + 16) × (at + r ≤ 768) ⌝ }
+    requires { ⌜ at + n ≤ lineSlots ⌝ }
+    ensures { λ r. ⌜ (n ≤ r) × (r ≤ n + 16) × (at + r ≤ lineSlots) ⌝ }
 {
     let m = (n + 15) / 16 * 16;
-    if at + m <= 768 { m } else { n }
+    if at + m <= LINE { m } else { n }
 }
 
 // Copies n slots of line p from slot `at` on to the front of w, with sixteen zeros behind them.
 fn copy_line(space: &[u8], p: usize, at: usize, n: usize, w: &mut [u8])
-    requires { ⌜ (at + n ≤ 768) × (768 * p + 768 ≤ length (now space)) × (784 ≤ length (now w)) ⌝ }
+    requires { ⌜ (at + n ≤ lineSlots) × (lineSlots * p + lineSlots ≤ length (now space)) × (784 ≤ length (now w)) ⌝ }
     ensures { λ _. ⌜ Copied (part at n (slots p (now (space .entry)))) (now (w .exit)) ⌝ }
 {
-    rows::store(&space[768 * p + at..768 * p + at + n], w, 0);
+    rows::store(&space[LINE * p + at..LINE * p + at + n], w, 0);
     rows::clear(w, n, 16);
 }
 
@@ -109,7 +110,7 @@ fn mix_others(
 )
     requires { ⌜ (badDegree degree ≡ false) × IsTable degree (now table) ⌝ }
     requires { ⌜ (p < lines) × (lines ≤ 5) × SymbolsAt degree (now ds) 0 lines × (getD (now ds) p 0 ≡ 0 → ⊥) ⌝ }
-    requires { ⌜ (at + n ≤ 768) × (768 * lines ≤ length (now space)) × (784 ≤ length (now w)) ⌝ }
+    requires { ⌜ (at + n ≤ lineSlots) × (lineSlots * lines ≤ length (now space)) × (784 ≤ length (now w)) ⌝ }
     ensures { λ _. ⌜ Each lines (mixed degree (now (ds .entry)) p (part at n (slots p (now (space .entry)))) at) (now (space .entry)) (now (space .exit))
         × Copied (part at n (slots p (now (space .entry)))) (now (w .exit)) ⌝ }
 {
@@ -130,13 +131,21 @@ fn raise(
     at: usize,
 )
     requires { ⌜ (badDegree degree ≡ false) × IsTable degree (now table) × (x < 2 ^ degree) ⌝ }
-    requires { ⌜ (at + length (now xs) + length (now locator) < 768) × (768 * p + 768 ≤ length (now space)) ⌝ }
-    requires { ⌜ SymbolsAt degree (now xs) 0 (length (now xs)) × SymbolsAt degree (now space) (768 * p + at) (length (now xs)) ⌝ }
-    requires { ⌜ now locator ≡ part (768 * p + at + length (now xs)) (length (now locator)) (now space) ⌝ }
+    requires { ⌜ (at + length (now xs) + length (now locator) < lineSlots) × (lineSlots * p + lineSlots ≤ length (now space)) ⌝ }
+    requires { ⌜ SymbolsAt degree (now xs) 0 (length (now xs)) × SymbolsAt degree (now space) (lineSlots * p + at) (length (now xs)) ⌝ }
+    requires { ⌜ now locator ≡ part (lineSlots * p + at + length (now xs)) (length (now locator)) (now space) ⌝ }
     ensures { λ _. ⌜ Only p (raised degree (now (xs .entry)) x at (length (now (locator .entry)))) (now (space .entry)) (now (space .exit)) ⌝ }
 {
-    lists::multiply(table, degree, xs, x, space, 768 * p + at, 0);
-    rows::linear_of(table, degree, x, 0, locator, space, 768 * p + at + xs.len());
+    lists::multiply(table, degree, xs, x, space, LINE * p + at, 0);
+    rows::linear_of(
+        table,
+        degree,
+        x,
+        0,
+        locator,
+        space,
+        LINE * p + at + xs.len(),
+    );
 }
 
 // Mixes the pivot p, the locator of which has at most `width` coefficients, into the other lines at condition i, and raises it;
@@ -154,8 +163,8 @@ pub(crate) fn turn(
     w: &mut [u8],
 )
     requires { ⌜ (badDegree degree ≡ false) × IsTable degree (now table) × All (IsSymbol degree) (now points) ⌝ }
-    requires { ⌜ (i < length (now points)) × (length (now points) ≤ 380) × (width ≤ i + 1) × (p < lines) × (lines ≤ 5) × (768 * lines ≤ length (now space)) × (784 ≤ length (now w)) ⌝ }
-    requires { ⌜ SymbolsAt degree (now ds) 0 lines × (getD (now ds) p 0 ≡ 0 → ⊥) × SymbolsAt degree (now space) (768 * p + (i + 1)) (length (now points) - (i + 1)) ⌝ }
+    requires { ⌜ (i < length (now points)) × (length (now points) ≤ 380) × (width ≤ i + 1) × (p < lines) × (lines ≤ 5) × (lineSlots * lines ≤ length (now space)) × (784 ≤ length (now w)) ⌝ }
+    requires { ⌜ SymbolsAt degree (now ds) 0 lines × (getD (now ds) p 0 ≡ 0 → ⊥) × SymbolsAt degree (now space) (lineSlots * p + (i + 1)) (length (now points) - (i + 1)) ⌝ }
     ensures { λ _. ⌜ Turned degree (now (points .entry)) (now (ds .entry)) lines i p width (now (space .entry)) (now (space .exit)) ⌝ }
 {
     mix_others(

@@ -3,7 +3,7 @@
 use native.Mathlib.Omega.{arith}
 use lib.ListN.{length}
 use Rattle.rows.proofs.Symbols.{symbols-zeros}
-use Rattle.mark.proofs.Passed.{largest-most}
+use Rattle.codes.proofs.Passed.{largest-most}
 use borrow.Author.Needs.{needs}
 use Rattle.conditions.proofs.conditions.Statement.{statement}
 use Rattle.conditions.proofs.conditions.Tie as tie
@@ -18,10 +18,10 @@ all-inverses-requires : tie.Need-all-inverses-requires
 all-inverses-requires c κs =
     let start = c .before .before .before .before .before .before .before in
     let p = start .pre in
-    let most = largest-most (length (start .args .points .now)) (start .args .lengths .now) (p .0 .1 .lengths) in
+    let most = largest-most (length (start .args .points .now)) (start .args .lengths .now) (p .0 .proper .lengths) in
     let k = c .before .largest .ensures in (
-      (p .0 .0 .degree, p .1 .0 .1, record { symbols = p .0 .1 .symbols; distinct = p .0 .1 .distinct }),
-      ((omega (arith, most, k), p .0 .0 .most-columns, omega (arith, most, k, p .0 .0 .most-columns)), symbols-zeros (start .args .degree) 9216),
+      (p .0 .counts .degree, p .1 .0, record { symbols = p .0 .proper .symbols; distinct = p .0 .proper .distinct }),
+      ((omega (arith, most, k), p .0 .counts .most-columns, omega (arith, most, k, p .0 .counts .most-columns)), symbols-zeros (start .args .degree) 9216),
     )
 
 slice-aggregate-rows-conditions : tie.Need-slice-aggregate-rows-conditions

@@ -7,7 +7,7 @@ use lib.ListN.{length, getD}
 use Rattle.patch.specs.Patch.{patch}
 use Rattle.patch.proofs.Laws.{patch-none, length-patch, patch-front}
 use Rattle.refusal.proofs.Laws.{each-within}
-use Rattle.mark.proofs.Proper.{lengths-test}
+use Rattle.codes.proofs.Proper.{lengths-test}
 use borrow.Author.Needs.{needs}
 use Rattle.conditions.proofs.row_counts.Statement.{statement}
 use Rattle.conditions.proofs.row_counts.Tie as tie

@@ -9,8 +9,8 @@ use Rattle.patch.specs.Parts.{lay}
 use Rattle.patch.proofs.Parts.{lay-none}
 use Rattle.field.specs.Symbols.{IsSymbol}
 use Rattle.rows.proofs.Sharing.{fewer-rounds}
-use Rattle.mark.proofs.Parts.{all-take, all-drop}
-use Rattle.mark.proofs.Passed.{up-to-largest}
+use Rattle.codes.proofs.Parts.{all-take, all-drop}
+use Rattle.codes.proofs.Passed.{up-to-largest}
 use Rattle.conditions.specs.Working.{reducedPoints, reducedValues}
 use Rattle.conditions.proofs.Places.{RowAt, next-row, row-room, row-size}
 use Rattle.conditions.proofs.Reduced.{most-points, row-within, points-count, points-more, values-more}
@@ -35,10 +35,10 @@ module _ (c : tie.In-loop Inv-loop μ-loop) where
   ks = start .args .lengths .now
 
   within : getD ks (c .before .loop .l) 0 ≤ length xs
-  within = row-within xs (start .args .degree) ks (start .pre .0 .0) (c .before .loop .l) (c .loop-test .taken) .1
+  within = row-within xs (start .args .degree) ks (start .pre .0 .counts) (c .before .loop .l) (c .loop-test .taken) .1
 
   most : length (reducedPoints xs ks) ≤ 384
-  most = omega (arith, most-points xs (start .args .degree) ks (start .pre .0 .0))
+  most = omega (arith, most-points xs (start .args .degree) ks (start .pre .0 .counts))
 
   few : c .before .loop .at + (length xs - getD ks (c .before .loop .l) 0) ≤ 384
   few = omega (arith, most, points-count xs ks (c .loop-test .taken), c .before .loop .inv .1)
@@ -62,7 +62,7 @@ part-row-conditions-start : tie.Need-part-row-conditions-start Inv-loop μ-loop
 part-row-conditions-start c = search needs
 
 part-row-conditions-end : tie.Need-part-row-conditions-end Inv-loop μ-loop
-part-row-conditions-end c = omega (arith, row-room _ _ (c .before .before .before .loop .inv .0) (c .before .before .loop-test .taken), c .before .before .before .before .before .before .before .before .before .before .pre .1 .0 .0 .count)
+part-row-conditions-end c = omega (arith, row-room _ _ (c .before .before .before .loop .inv .0) (c .before .before .loop-test .taken), c .before .before .before .before .before .before .before .before .before .before .pre .0 .received .count)
 
 row-conditions-requires : tie.Need-row-conditions-requires Inv-loop μ-loop
 row-conditions-requires c κs = let turn = c .before .before .before .before .before .before .loop in
@@ -70,13 +70,13 @@ row-conditions-requires c κs = let turn = c .before .before .before .before .be
     let d = start (c .before .before .before .before .before) .args .degree in
     let y = start (c .before .before .before .before .before) .args .received .now in
     let all : turn .from + length (xs (c .before .before .before .before .before)) - turn .from ≡ length (xs (c .before .before .before .before .before)) = omega arith in (
-      (p .0 .0 .degree, p .1 .0 .1, record { symbols = p .0 .1 .symbols; distinct = p .0 .1 .distinct }),
+      (p .0 .counts .degree, p .1 .0, record { symbols = p .0 .proper .symbols; distinct = p .0 .proper .distinct }),
       (
         (
           omega (arith, within (c .before .before .before .before .before), c .before .before .before .wide .ensures),
-          p .0 .0 .most-columns,
-          rw all (row-size (length (xs (c .before .before .before .before .before))) (ks (c .before .before .before .before .before)) (turn .inv .0) (c .before .before .before .before .before .loop-test .taken) y (p .1 .0 .0 .count)),
-          all-take (IsSymbol d) (turn .from + length (xs (c .before .before .before .before .before)) - turn .from) (drop (turn .from) y) (all-drop (IsSymbol d) (turn .from) y (p .1 .0 .0 .symbols)),
+          p .0 .counts .most-columns,
+          rw all (row-size (length (xs (c .before .before .before .before .before))) (ks (c .before .before .before .before .before)) (turn .inv .0) (c .before .before .before .before .before .loop-test .taken) y (p .0 .received .count)),
+          all-take (IsSymbol d) (turn .from + length (xs (c .before .before .before .before .before)) - turn .from) (drop (turn .from) y) (all-drop (IsSymbol d) (turn .from) y (p .0 .received .symbols)),
         ),
         (omega (arith, few (c .before .before .before .before .before), c .before .before .before .wide .ensures, turn .inv .2), omega (arith, few (c .before .before .before .before .before), c .before .before .before .wide .ensures, turn .inv .3), rw (c .before .before .before .wide .ensures) (fewer-rounds _ _ (p .1 .1 .2) (up-to-largest (ks (c .before .before .before .before .before)) (turn .l) (c .before .before .before .before .before .loop-test .taken)))),
       ),
@@ -111,7 +111,7 @@ loop-again c = let turn = c .before .before .before .before .before .before .bef
       omega (arith, points-count (xs (c .before .before .before .before .before .before .before .before .before .before)) (ks (c .before .before .before .before .before .before .before .before .before .before)) more, turn .inv .1, e),
       omega (arith, c .before .before .before .before .row-conditions .kept, turn .inv .2),
       omega (arith, c .before .before .before .before .row-conditions .kept, turn .inv .3),
-      rw e (values-more d (p .0 .1 .field) (xs (c .before .before .before .before .before .before .before .before .before .before)) (ks (c .before .before .before .before .before .before .before .before .before .before)) y (p .1 .0 .0 .count) (turn .inv .0) more (turn .at) (turn .us) (stored .0) (omega (arith, most (c .before .before .before .before .before .before .before .before .before .before), turn .inv .1, turn .inv .2))) ∙ turn .inv .4,
+      rw e (values-more d (p .0 .proper .field) (xs (c .before .before .before .before .before .before .before .before .before .before)) (ks (c .before .before .before .before .before .before .before .before .before .before)) y (p .0 .received .count) (turn .inv .0) more (turn .at) (turn .us) (stored .0) (omega (arith, most (c .before .before .before .before .before .before .before .before .before .before), turn .inv .1, turn .inv .2))) ∙ turn .inv .4,
       rw e (points-more (xs (c .before .before .before .before .before .before .before .before .before .before)) (ks (c .before .before .before .before .before .before .before .before .before .before)) more (turn .at) (turn .xs) (stored .1) (omega (arith, most (c .before .before .before .before .before .before .before .before .before .before), turn .inv .1, turn .inv .3))) ∙ turn .inv .5,
     )
 

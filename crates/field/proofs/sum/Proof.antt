@@ -7,15 +7,12 @@ use borrow.Author.Needs.{needs}
 use Rattle.field.proofs.sum.Statement.{statement}
 use Rattle.field.proofs.sum.Tie as tie
 
-first-refusal-requires : tie.Need-first-refusal-requires
-first-refusal-requires c κs = search needs
-
-returns : tie.Need-returns
-returns c = refuses _ _ (c .before .first-refusal .ensures) (c .if1 .taken)
-
 returns-2 : tie.Need-returns-2
 unfolding plus
 returns-2 c = gives _ _ (sym (c .if1 .left) ∙ c .before .first-refusal .ensures) refl
 
 pub sum-spec : {M : Type 1} → statement M
-sum-spec = tie.close (tie.spec first-refusal-requires returns returns-2)
+sum-spec = tie.close (tie.spec
+    (λ c κs. search needs)
+    (λ c. refuses _ _ (c .before .first-refusal .ensures) (c .if1 .taken))
+    returns-2)

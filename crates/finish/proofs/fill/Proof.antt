@@ -6,7 +6,7 @@ use native.Mathlib.Omega.{arith}
 use lib.ListN.{length, replicate}
 use lib.Seq.{length-take-le}
 use Rattle.patch.proofs.Parts.{laid-front}
-use Rattle.mark.specs.Lost.{right}
+use Rattle.codes.specs.Lost.{right}
 use Rattle.finish.proofs.Marks.{right-most}
 use Rattle.finish.proofs.Filled.{flags-count}
 use borrow.Author.Needs.{needs}
@@ -18,16 +18,16 @@ module _ (c : tie.Start) where
   flags = flags-count (c .args .points .now) (c .args .marks .now) (c .args .flags .now) (c .pre .1 .1 .0) (c .pre .1 .1 .1)
 
   good : length (right (c .args .flags .now) (c .args .points .now)) ≤ 96
-  good = omega (arith, right-most (c .args .flags .now) (c .args .points .now), flags, c .pre .0 .0 .most-columns)
+  good = omega (arith, right-most (c .args .flags .now) (c .args .points .now), flags, c .pre .0 .counts .most-columns)
 
   wrong : length (right (c .args .marks .now) (c .args .points .now)) ≤ 96
-  wrong = omega (arith, right-most (c .args .marks .now) (c .args .points .now), c .pre .1 .1 .1, c .pre .0 .0 .most-columns)
+  wrong = omega (arith, right-most (c .args .marks .now) (c .args .points .now), c .pre .1 .1 .1, c .pre .0 .counts .most-columns)
 
 slice-aggregate-gather : tie.Need-slice-aggregate-gather
 slice-aggregate-gather c = search needs
 
 gather-requires : tie.Need-gather-requires
-gather-requires c κs = (sym (flags (c .before .before .before .before .before .before .before)), omega (arith, flags (c .before .before .before .before .before .before .before), c .before .before .before .before .before .before .before .pre .0 .0 .most-columns))
+gather-requires c κs = (sym (flags (c .before .before .before .before .before .before .before)), omega (arith, flags (c .before .before .before .before .before .before .before), c .before .before .before .before .before .before .before .pre .0 .counts .most-columns))
 
 slice-aggregate-gather-2 : tie.Need-slice-aggregate-gather-2
 slice-aggregate-gather-2 c = search needs

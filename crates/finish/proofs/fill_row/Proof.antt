@@ -11,11 +11,11 @@ use Rattle.field.specs.Symbols.{IsSymbol}
 use Rattle.field.specs.Arithmetic.{gf}
 use Rattle.field.proofs.Instance.{field}
 use Rattle.poly.proofs.Differences.{symbols-reduce}
-use Rattle.mark.proofs.Parts.{all-take}
+use Rattle.codes.proofs.Parts.{all-take}
 use Rattle.rows.proofs.Symbols.{symbols-held}
 use Rattle.rows.proofs.Sharing.{fewer-rounds}
-use Rattle.mark.specs.Lost.{right}
-use Rattle.mark.proofs.Right.{all-right}
+use Rattle.codes.specs.Lost.{right}
+use Rattle.codes.proofs.Right.{all-right}
 use Rattle.finish.proofs.Marks.{right-most}
 use Rattle.finish.proofs.Filled.{newton, row-filled}
 use borrow.Author.Needs.{needs}

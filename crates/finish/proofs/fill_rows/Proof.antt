@@ -10,15 +10,15 @@ use Rattle.patch.specs.Parts.{lay}
 use Rattle.patch.proofs.Parts.{lay-none}
 use Rattle.field.specs.Symbols.{IsSymbol}
 use Rattle.field.specs.Arithmetic.{gf}
-use Rattle.rows.specs.Rows.{Inverses}
+use Rattle.rows.specs.Working.Rows.{Inverses}
 use Rattle.rows.proofs.Sharing.{fewer-rounds, fewer-points}
-use Rattle.mark.specs.Code.{largest}
-use Rattle.mark.proofs.Parts.{all-take, all-drop}
-use Rattle.mark.proofs.Passed.{up-to-largest}
+use Rattle.codes.specs.Code.{largest}
+use Rattle.codes.proofs.Parts.{all-take, all-drop}
+use Rattle.codes.proofs.Passed.{up-to-largest}
 use Rattle.ending.proofs.Model.{filledRows}
 use Rattle.conditions.proofs.Places.{RowAt, next-row, row-room, row-size}
 use Rattle.conditions.proofs.Reduced.{row-within}
-use Rattle.mark.proofs.Right.{all-right}
+use Rattle.codes.proofs.Right.{all-right}
 use Rattle.finish.proofs.Marks.{right-most}
 use Rattle.finish.proofs.Filled.{row-is, filled-more, flags-count, wrong-count, enough-right, longest-right, right-points}
 use borrow.Author.Needs.{needs}
@@ -39,7 +39,7 @@ module _ (c : tie.In-loop Inv-loop μ-loop) where
   k = getD (start .args .lengths .now) (c .before .loop .l) 0
 
   within : 1 ≤ k
-  within = row-within (start .args .points .now) (start .args .degree) (start .args .lengths .now) (start .pre .0 .0) (c .before .loop .l) (c .loop-test .taken) .0
+  within = row-within (start .args .points .now) (start .args .degree) (start .args .lengths .now) (start .pre .0 .counts) (c .before .loop .l) (c .loop-test .taken) .0
 
   enough : k ≤ length (start .args .good .now)
   enough =
@@ -79,7 +79,7 @@ part-fill-row-start : tie.Need-part-fill-row-start Inv-loop μ-loop
 part-fill-row-start c = search needs
 
 part-fill-row-end : tie.Need-part-fill-row-end Inv-loop μ-loop
-part-fill-row-end c = omega (arith, row-room _ _ (c .before .before .before .before .loop .inv .0) (c .before .before .before .loop-test .taken), c .before .before .before .before .before .before .before .before .before .before .before .before .before .before .pre .1 .0 .0 .count)
+part-fill-row-end c = omega (arith, row-room _ _ (c .before .before .before .before .loop .inv .0) (c .before .before .before .loop-test .taken), c .before .before .before .before .before .before .before .before .before .before .before .before .before .before .pre .0 .received .count)
 
 fill-row-requires : tie.Need-fill-row-requires Inv-loop μ-loop
 fill-row-requires c κs = let turn = c .before .before .before .before .before .before .loop in
@@ -92,29 +92,29 @@ fill-row-requires c κs = let turn = c .before .before .before .before .before .
     let wrong = p .1 .1 .1 .1 in
     let size : length (take (c .before .before .before .wide .result) (a .good .now)) ≡ c .before .before .before .wide .result = length-take-le (c .before .before .before .wide .result) (a .good .now) (omega (arith, enough (c .before .before .before .before .before), c .before .before .before .wide .ensures)) in
     let all : turn .at + n - turn .at ≡ n = omega arith in
-    let row = row-size n (a .lengths .now) (turn .inv .0) (c .before .before .before .before .before .loop-test .taken) y (p .1 .0 .0 .count) in (
+    let row = row-size n (a .lengths .now) (turn .inv .0) (c .before .before .before .before .before .loop-test .taken) y (p .0 .received .count) in (
       (
-        p .0 .0 .degree,
-        p .1 .0 .1,
-        rw (p .1 .1 .1 .0) (right-points (a .points .now) (a .marks .now) (a .flags .now) (p .1 .1 .0 .0) (p .1 .1 .0 .1) (record { symbols = p .0 .1 .symbols; distinct = p .0 .1 .distinct }) (c .before .before .before .wide .result)),
-        rw wrong (all-right (IsSymbol d) (a .marks .now) (a .points .now) (p .0 .1 .symbols)),
+        p .0 .counts .degree,
+        p .1 .0 .0,
+        rw (p .1 .1 .1 .0) (right-points (a .points .now) (a .marks .now) (a .flags .now) (p .1 .1 .0 .0) (p .1 .1 .0 .1) (record { symbols = p .0 .proper .symbols; distinct = p .0 .proper .distinct }) (c .before .before .before .wide .result)),
+        rw wrong (all-right (IsSymbol d) (a .marks .now) (a .points .now) (p .0 .proper .symbols)),
       ),
       (
         (
           rw all (row ∙ sym flags),
           p .1 .1 .0 .1 ∙ sym flags,
-          omega (arith, p .0 .0 .most-columns),
-          all-take (IsSymbol d) (turn .at + n - turn .at) (drop (turn .at) y) (all-drop (IsSymbol d) (turn .at) y (p .1 .0 .0 .symbols)),
+          omega (arith, p .0 .counts .most-columns),
+          all-take (IsSymbol d) (turn .at + n - turn .at) (drop (turn .at) y) (all-drop (IsSymbol d) (turn .at) y (p .0 .received .symbols)),
         ),
         (
           (
             omega (arith, within (c .before .before .before .before .before), c .before .before .before .wide .ensures),
             rw (size, all) (omega (arith, c .before .before .before .wide .ensures, enough-right (a .points .now) (a .marks .now) (a .flags .now) (p .1 .1 .0 .0) (p .1 .1 .0 .1) (a .lengths .now) (p .1 .1 .0 .2) (take n (drop (turn .at) y)) row (turn .l) (c .before .before .before .before .before .loop-test .taken))),
-            rw wrong (omega (arith, right-most (a .marks .now) (a .points .now), p .1 .1 .0 .1, p .0 .0 .most-columns)),
+            rw wrong (omega (arith, right-most (a .marks .now) (a .points .now), p .1 .1 .0 .1, p .0 .counts .most-columns)),
           ),
           (
             rw wrong (wrong-count (a .points .now) (a .marks .now) (a .flags .now) (p .1 .1 .0 .0) (p .1 .1 .0 .1)),
-            omega (arith, row-room n (a .lengths .now) (turn .inv .0) (c .before .before .before .before .before .loop-test .taken), p .0 .0 .cells, turn .inv .1),
+            omega (arith, row-room n (a .lengths .now) (turn .inv .0) (c .before .before .before .before .before .loop-test .taken), p .0 .counts .cells, turn .inv .1),
             rw size (lent (c .before .before .before .before .before) (c .before .before .before .wide .ensures)),
           ),
         ),
@@ -139,14 +139,14 @@ loop-again c = let turn = c .before .before .before .before .before .before .bef
     let y = a .received .now in
     let e = c .before .before .before .before .before .before .wide .ensures in
     let all : turn .at + n - turn .at ≡ n = omega arith in
-    let row = row-size n (a .lengths .now) (turn .inv .0) more y (p .1 .0 .0 .count) in
+    let row = row-size n (a .lengths .now) (turn .inv .0) more y (p .0 .received .count) in
     let flags = flags-count (a .points .now) (a .marks .now) (a .flags .now) (p .1 .1 .0 .0) (p .1 .1 .0 .1) in
     let same = row-is (a .degree) (getD (a .lengths .now) (turn .l) 0) (a .marks .now) (a .points .now) (take n (drop (turn .at) y)) (ap (take (getD (a .lengths .now) (turn .l) 0)) (p .1 .1 .1 .0)) (p .1 .1 .1 .1) (p .1 .1 .0 .0) (p .1 .1 .0 .1) row
     (enough-right (a .points .now) (a .marks .now) (a .flags .now) (p .1 .1 .0 .0) (p .1 .1 .0 .1) (a .lengths .now) (p .1 .1 .0 .2) (a .points .now) (omega arith) (turn .l) more) in
     let stored = rw (e, all) at (c .before .before .fill-row .ensures) in (
       next-row n (a .lengths .now) (turn .inv .0) more,
       omega (arith, c .before .before .fill-row .kept, turn .inv .1),
-      filled-more (a .degree) (a .flags .now) (a .points .now) flags (a .lengths .now) y (p .1 .0 .0 .count) (turn .inv .0) more (turn .s) (stored ∙ ap (λ (v : List ℕ). lay (turn .at) v (turn .s)) same) (omega (arith, p .0 .0 .cells, turn .inv .1)) ∙ turn .inv .2,
+      filled-more (a .degree) (a .flags .now) (a .points .now) flags (a .lengths .now) y (p .0 .received .count) (turn .inv .0) more (turn .s) (stored ∙ ap (λ (v : List ℕ). lay (turn .at) v (turn .s)) same) (omega (arith, p .0 .counts .cells, turn .inv .1)) ∙ turn .inv .2,
     )
 
 same-length : tie.Need-same-length Inv-loop μ-loop

@@ -6,8 +6,8 @@ use native.Mathlib.Omega.{arith}
 use lib.ListN.{length, take}
 use lib.Seq.{length-take-le}
 use Rattle.rows.proofs.Symbols.{symbols-zeros}
-use Rattle.mark.specs.Code.{largest}
-use Rattle.mark.proofs.Passed.{largest-most}
+use Rattle.codes.specs.Code.{largest}
+use Rattle.codes.proofs.Passed.{largest-most}
 use Rattle.finish.proofs.Filled.{longest-right, right-points}
 use borrow.Author.Needs.{needs}
 use Rattle.finish.proofs.fill_wrong.Statement.{statement}
@@ -36,14 +36,14 @@ all-inverses-requires c κs =
     let p = start .pre in
     let k : ℕ = c .before .before .largest .result in
     let e = c .before .before .largest .ensures in
-    let most = largest-most (length (a .points .now)) (a .lengths .now) (p .0 .1 .lengths) in
+    let most = largest-most (length (a .points .now)) (a .lengths .now) (p .0 .proper .lengths) in
     let size : length (take k (a .good .now)) ≡ k = length-take-le k (a .good .now) (omega (arith, long start, e)) in (
       (
-        p .0 .0 .degree,
-        p .1 .0 .1,
-        rw (p .1 .1 .1 .0) (right-points (a .points .now) (a .marks .now) (a .flags .now) (p .1 .1 .0 .0) (p .1 .1 .0 .1) (record { symbols = p .0 .1 .symbols; distinct = p .0 .1 .distinct }) k),
+        p .0 .counts .degree,
+        p .1 .0 .0,
+        rw (p .1 .1 .1 .0) (right-points (a .points .now) (a .marks .now) (a .flags .now) (p .1 .1 .0 .0) (p .1 .1 .0 .1) (record { symbols = p .0 .proper .symbols; distinct = p .0 .proper .distinct }) k),
       ),
-      ((omega arith, omega (arith, most, e, p .0 .0 .most-columns), omega (arith, most, e, p .0 .0 .most-columns)), symbols-zeros (a .degree) 9216),
+      ((omega arith, omega (arith, most, e, p .0 .counts .most-columns), omega (arith, most, e, p .0 .counts .most-columns)), symbols-zeros (a .degree) 9216),
     )
 
 slice-aggregate-fill-rows : tie.Need-slice-aggregate-fill-rows

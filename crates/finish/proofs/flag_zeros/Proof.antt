@@ -6,7 +6,7 @@ use native.Mathlib.Omega.{arith}
 use lib.ListN.{length, drop, length-set}
 use Rattle.patch.specs.Parts.{lay}
 use Rattle.patch.proofs.Parts.{lay-none}
-use Rattle.mark.specs.Code.{total}
+use Rattle.codes.specs.Code.{total}
 use Rattle.finish.specs.Working.{zerosIn}
 use Rattle.finish.proofs.Marks.{zeros-none, flagged}
 use borrow.Author.Needs.{needs}

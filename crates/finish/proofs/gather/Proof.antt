@@ -7,17 +7,17 @@ use native.Mathlib.Omega.{arith}
 use lib.ListN.{length, drop}
 use Rattle.patch.specs.Parts.{lay}
 use Rattle.patch.proofs.Parts.{lay-none}
-use Rattle.mark.specs.Lost.{right}
+use Rattle.codes.specs.Lost.{right}
 use Rattle.finish.proofs.Marks.{right-most, right-none, Gathered, gathered-in, gathered-out}
 use borrow.Author.Needs.{needs}
 use Rattle.finish.proofs.gather.Statement.{statement}
 use Rattle.finish.proofs.gather.Tie as tie
 
 abbrev Inv-loop : tie.InvT-loop
-Inv-loop marks row s₀ j₀ i₀ s j i = (i ≤ length marks) × (j ≤ i) × (length s ≡ length s₀) × (j + length (right (drop i marks) (drop i row)) ≡ length (right marks row)) × (lay j (right (drop i marks) (drop i row)) s ≡ lay 0 (right marks row) s₀)
+Inv-loop flags row s₀ j₀ i₀ s j i = (i ≤ length flags) × (j ≤ i) × (length s ≡ length s₀) × (j + length (right (drop i flags) (drop i row)) ≡ length (right flags row)) × (lay j (right (drop i flags) (drop i row)) s ≡ lay 0 (right flags row) s₀)
 
 abbrev μ-loop : tie.MeasureT-loop
-μ-loop marks row s₀ j₀ i₀ s j i = length marks - i
+μ-loop flags row s₀ j₀ i₀ s j i = length flags - i
 
 loop-holds : tie.Need-loop-holds Inv-loop μ-loop
 loop-holds c = search needs
@@ -43,7 +43,7 @@ loop-less c = search needs
 loop-again : tie.Need-loop-again Inv-loop μ-loop
 loop-again c = let start = c .before .before .before .before in
     let turn = c .before .before .before .loop in
-    let ms = start .args .marks .now in
+    let ms = start .args .flags .now in
     let l = start .args .row .now in
     let more = c .before .before .loop-test .taken in
     let fits : turn .j + length (right (drop (turn .i) ms) (drop (turn .i) l)) ≤ length (turn .s) = omega (arith, turn .inv, right-most ms l, start .pre) in
@@ -63,7 +63,7 @@ same-length c = search needs
 
 returns : tie.Need-returns Inv-loop μ-loop
 returns c = let turn = c .before .loop in
-    let none = right-none (c .before .before .args .marks .now) (c .before .before .args .row .now) (turn .i) (c .loop-test .left) in
+    let none = right-none (c .before .before .args .flags .now) (c .before .before .args .row .now) (turn .i) (c .loop-test .left) in
     (omega (arith, ap length none, turn .inv .3), sym (lay-none (turn .j) (turn .s)) ∙ rw none at (turn .inv .4))
 
 pub gather-spec : {M : Type 1} → statement M

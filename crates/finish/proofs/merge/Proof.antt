@@ -8,7 +8,7 @@ use native.Mathlib.Omega.{arith}
 use lib.ListN.{length, drop}
 use Rattle.patch.specs.Parts.{lay}
 use Rattle.patch.proofs.Parts.{lay-none}
-use Rattle.mark.specs.Code.{total}
+use Rattle.codes.specs.Code.{total}
 use Rattle.finish.specs.Working.{zerosIn, put}
 use Rattle.finish.proofs.Marks.{put-none, zero-left, Merged, merged-in, merged-out}
 use borrow.Author.Needs.{needs}

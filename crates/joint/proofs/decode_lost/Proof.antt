@@ -5,11 +5,13 @@ use mathlib.Core.Path.{_≡_, refl, sym, _∙_, subst}
 use mathlib.Core.List.{List, []}
 use Prim.Native.Nat.{ℕ}
 use Rattle.refusal.specs.Refusal.{first}
-use Rattle.mark.specs.Code.{codeOf}
-use Rattle.mark.proofs.Parts.{empty}
-use Rattle.joint.specs.Promises.{Given, given, buffers}
-use Rattle.joint.proofs.Promised.{firstOf, front-length, lends, leaves}
-use Rattle.joint.proofs.LostPromised.{checksOf, refused-lost, lends-lost, front-lost, leaves-lost}
+use Rattle.codes.specs.Code.{codeOf}
+use Rattle.codes.proofs.Parts.{empty}
+use Rattle.codes.proofs.Passed.{PassedDecoding, decoding}
+use Rattle.codes.proofs.Lost.{PassedLost, lost-passed}
+use Rattle.joint.specs.Promises.{Given, given, buffers, checksOf}
+use Rattle.joint.specs.Lost.{checksLost}
+use Rattle.joint.proofs.Promised.{refuses, front-length, lends, leaves}
 use Rattle.joint.proofs.LostDemands.{none-checks, none-decodes}
 use borrow.Author.Needs.{needs}
 use Rattle.joint.proofs.decode_lost.Statement.{statement}
@@ -26,54 +28,61 @@ module _ (c : tie.After-lost-refusal) where
   asked = given (codeOf (start .args .degree) (start .args .points .now) (start .args .lengths .now)) (start .args .limit)
       (start .args .received .now) (buffers (start .args .answer .now) (start .args .flags .now)) (start .args .space .now)
 
-  number : c .lost-refusal .result ≡ first (checksOf lost asked)
+  number : c .lost-refusal .result ≡ first (checksLost lost asked)
   number = c .lost-refusal .ensures (start .args .answer .now) (start .args .flags .now) (start .args .space .now) refl refl refl
 
-clear : (c : tie.Else1) → 0 ≡ first (checksOf (lost (c .before)) (asked (c .before)))
-clear c = sym (c .if1 .left) ∙ number (c .before)
+module _ (c : tie.Else1) where
+  abbrev g : Given
+  g = asked (c .before)
+
+  clear : 0 ≡ first (checksLost (lost (c .before)) g)
+  clear = sym (c .if1 .left) ∙ number (c .before)
+
+  passed : PassedLost (g .code) (g .limit) (lost (c .before)) (g .received) (g .lent .array) (g .lent .flags) (g .space)
+  passed = lost-passed (g .code) (g .limit) (lost (c .before)) (g .received) (g .lent .array) (g .lent .flags) (g .space) clear
 
 -- nothing is lost
 module _ (c : tie.Then2) where
-  abbrev called : tie.After-lost-refusal
-  called = c .before .before
+  none : [] ≡ lost (c .before .before)
+  none = empty (lost (c .before .before)) (c .if2 .taken)
 
-  none : [] ≡ lost called
-  none = empty (lost called) (c .if2 .taken)
+  whole : 0 ≡ first (checksOf (g (c .before)))
+  whole = subst (λ (L : List ℕ). 0 ≡ first (checksLost L (g (c .before)))) (sym none) (clear (c .before)) ∙ none-checks (g (c .before))
 
-  whole : 0 ≡ firstOf (asked called)
-  whole = subst (λ (L : List ℕ). 0 ≡ first (checksOf L (asked called))) (sym none) (clear (c .before)) ∙ none-checks (asked called)
-
--- some column is
-module _ (c : tie.Else2) where
-  abbrev at : tie.After-lost-refusal
-  at = c .before .before
-
-  some : 0 ≡ first (checksOf (lost at) (asked at))
-  some = clear (c .before)
+  whole-passed : let g = g (c .before) in PassedDecoding (g .code) (g .limit) (g .received) (g .lent .array) (g .lent .flags) (g .space)
+  whole-passed = let g = g (c .before) in decoding (g .code) (g .limit) (g .received) (g .lent .array) (g .lent .flags) (g .space) whole
 
 returns : tie.Need-returns
-returns c = refused-lost (lost (c .before)) (asked (c .before)) (number (c .before)) (c .if1 .taken)
+returns c =
+    let g = asked (c .before) in
+    refuses (checksLost (lost (c .before)) g) (g .lent) (g .space) _ (number (c .before)) (c .if1 .taken)
 
 returns-2 : tie.Need-returns-2
 returns-2 c =
     let w = c .before .before .before .before .before .before in
     let t = w .before .before .before .before in
-    none-decodes (lost (called t)) (asked (called t)) _ (none t)
-    (leaves (asked (called t)) (whole t) (w .work .result)
+    let g = g (t .before) in
+    none-decodes (lost (t .before .before)) g _ (none t)
+    (leaves (checksOf g) (g .lent) (g .space) _ (whole t) (passed (t .before) .array .space) (w .work .result)
     (buffers (w .work .last .1 .1 .1 .1 .1 .0) (w .work .last .1 .1 .1 .1 .1 .1 .0)) (w .work .last .1 .1 .1 .1 .1 .1 .1 .0)
     (w .work .ensures .0) (w .work .ensures .1) (w .work .kept .1 .1 .1 .1 .1 .1 .1 .0))
 
 work-lost-requires : tie.Need-work-lost-requires
 work-lost-requires c κs =
-    let e = c .before .before .before in
-    let p = lends-lost (lost (at e)) (asked (at e)) (some e) in
-    ((p .ready, front-lost (lost (at e)) (asked (at e)) (some e)), (p .answer, p .flags))
+    let p = passed (c .before .before .before .before) in (
+      (
+        record { counts = p .array .counts; proper = p .array .proper; received = p .array .received; remain = p .remain },
+        front-length (g (c .before .before .before .before) .space) (p .array .space),
+      ),
+      (p .array .answer ∙ sym (p .array .received .count), p .array .flags),
+    )
 
 returns-3 : tie.Need-returns-3
 returns-3 c =
     let w = c .before .before .before .before .before .before in
-    let e = w .before .before .before .before in
-    leaves-lost (lost (at e)) (asked (at e)) (some e) (w .work-lost .result)
+    let e = w .before .before .before .before .before in
+    let g = g e in
+    leaves (checksLost (lost (e .before)) g) (g .lent) (g .space) _ (clear e) (passed e .array .space) (w .work-lost .result)
     (buffers (w .work-lost .last .1 .1 .1 .1 .1 .1 .0) (w .work-lost .last .1 .1 .1 .1 .1 .1 .1 .0))
     (w .work-lost .last .1 .1 .1 .1 .1 .1 .1 .1 .0)
     (w .work-lost .ensures .0) (w .work-lost .ensures .1) (w .work-lost .kept .1 .1 .1 .1 .1 .1 .1 .1 .0)
@@ -84,15 +93,15 @@ decode-lost-spec =
     (tie.spec
     (λ c κs. search needs)
     returns
-    (λ c. lends-lost (lost (called (c .before .before))) (asked (called (c .before .before))) (clear (c .before .before .before)) .space)
-    (λ c. sym (front-length (asked (called (c .before .before .before))) (whole (c .before .before .before))))
-    (λ c κs. lends (asked (called (c .before .before .before))) (whole (c .before .before .before)))
+    (λ c. passed (c .before .before .before) .array .space)
+    (λ c. sym (front-length (g (c .before .before .before .before) .space) (passed (c .before .before .before .before) .array .space)))
+    (λ c κs. lends (whole-passed (c .before .before .before)))
     (λ c. c .before .before .before .before .before .before .work .kept .1 .1 .1 .1 .1 .0)
     (λ c. c .before .before .before .before .before .before .work .kept .1 .1 .1 .1 .1 .1 .0)
     (λ c. search needs)
     returns-2
-    (λ c. lends-lost (lost (at (c .before .before))) (asked (at (c .before .before))) (some (c .before .before)) .space)
-    (λ c. sym (front-lost (lost (at (c .before .before .before))) (asked (at (c .before .before .before))) (some (c .before .before .before))))
+    (λ c. passed (c .before .before .before) .array .space)
+    (λ c. sym (front-length (g (c .before .before .before .before) .space) (passed (c .before .before .before .before) .array .space)))
     work-lost-requires
     (λ c. c .before .before .before .before .before .before .work-lost .kept .1 .1 .1 .1 .1 .1 .0)
     (λ c. c .before .before .before .before .before .before .work-lost .kept .1 .1 .1 .1 .1 .1 .1 .0)

@@ -9,12 +9,12 @@ use lib.ListN.{length, take, replicate}
 use lib.Seq.{length-take-le, length-front, take-at}
 use Rattle.patch.specs.Parts.{lay}
 use Rattle.patch.proofs.Parts.{laid-front, length-lay}
-use Rattle.mark.specs.Code.{Code, codeOf, rows, columns}
-use Rattle.mark.specs.Lost.{lostFlags, core, coreOf}
-use Rattle.mark.proofs.Parts.{all-map}
-use Rattle.mark.proofs.Lost.{lost-length, core-few, core-array}
+use Rattle.codes.specs.Code.{Code, codeOf, rows, columns}
+use Rattle.codes.specs.Lost.{lostFlags, core, coreOf}
+use Rattle.codes.proofs.Parts.{all-map}
+use Rattle.codes.proofs.Lost.{lost-length, core-few, core-array}
 use Rattle.joint.specs.Promises.{buffers}
-use Rattle.joint.specs.Working.{Ready}
+use Rattle.joint.specs.Working.{ReadyLost}
 use Rattle.remaining.proofs.Fronts.{lost-front}
 use Rattle.joint.proofs.Lost.{rest-passed}
 use borrow.Author.Needs.{needs}
@@ -40,7 +40,7 @@ module _ (c : tie.After-lost-flags) where
   abbrev n : ℕ
   n = length (start .args .points .now)
 
-  ready : Ready code (start .args .limit) L y
+  ready : ReadyLost code (start .args .limit) L y
   ready = start .pre .0
 
   few : n ≤ 96

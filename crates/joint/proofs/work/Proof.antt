@@ -6,18 +6,18 @@ use Prim.Native.Nat.{ℕ}
 use native.Mathlib.Omega.{arith}
 use lib.ListN.{length, take, replicate}
 use lib.Seq.{length-take-le}
-use Rattle.mark.specs.Code.{codeOf}
+use Rattle.codes.specs.Code.{codeOf}
 use Rattle.ending.specs.Endings.{Buffers, Ends}
 use Rattle.joint.specs.Promises.{buffers}
 use Rattle.finish.specs.Working.{fronts, released}
-use Rattle.mark.proofs.Rows.{copied}
+use Rattle.mark.proofs.Rows.{take-copied}
 use Rattle.joint.proofs.Blank.{blank-of}
 use borrow.Author.Needs.{needs}
 use Rattle.joint.proofs.work.Statement.{statement}
 use Rattle.joint.proofs.work.Tie as tie
 
 held : (c : tie.After-copy) → take (length (c .before .before .before .before .before .before .before .before .before .args .points .now)) (c .copy .last .1 .0) ≡ c .before .before .before .before .before .before .before .before .before .args .points .now
-held c = copied (c .before .before .before .before .before .before .before .before .before .args .points .now) (replicate 96 0) (c .copy .ensures .1)
+held c = take-copied (c .before .before .before .before .before .before .before .before .before .args .points .now) (replicate 96 0) (c .copy .ensures .1)
 
 lend-requires : tie.Need-lend-requires
 lend-requires c κs = search needs
@@ -42,7 +42,7 @@ slice-aggregate-end-3 c = search needs
 
 end-requires : tie.Need-end-requires
 end-requires c κs = let h = c .before .before .before .before .before .before .before .before .before .before .before .before .before .before .before .pre .0 in
-    rw (held (c .before .before .before .before .before .before)) ((h .counts, h .proper), ((h .received, h .limit, c .before .before .before .before .before .before .before .before .lend .ensures), (omega (arith, c .before .before .before .before .before .before .before .before .before .before .before .before .before .before .before .pre .1), omega arith, omega arith)))
+    rw (held (c .before .before .before .before .before .before)) (record { counts = h .counts; proper = h .proper; received = h .received }, ((h .limit, c .before .before .before .before .before .before .before .before .lend .ensures), (omega (arith, c .before .before .before .before .before .before .before .before .before .before .before .before .before .before .before .pre .1), omega arith, omega arith)))
 
 array-share-prefix-own : tie.Need-array-share-prefix-own
 array-share-prefix-own c = search needs

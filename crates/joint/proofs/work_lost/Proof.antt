@@ -6,15 +6,15 @@ use Prim.Native.Nat.{ℕ, _-_, _≤_}
 use native.Mathlib.Omega.{arith}
 use lib.ListN.{length, take}
 use lib.Seq.{length-take-le}
-use Rattle.mark.specs.Code.{Code, codeOf, columns}
-use Rattle.mark.specs.Lost.{core, coreOf}
-use Rattle.mark.proofs.Lost.{core-columns, core-few}
+use Rattle.codes.specs.Code.{Code, codeOf, columns}
+use Rattle.codes.specs.Lost.{core, coreOf}
+use Rattle.codes.proofs.Lost.{core-columns, core-few}
 use Rattle.ending.specs.Endings.{Corrects, Ends}
 use Rattle.ending.specs.declared.Ending.{Ending}
 use Rattle.ending.specs.declared.Ending.the-variants.{Refused, Corrected, Nothing, Several, Hollow}
 use Rattle.joint.specs.Promises.{buffers}
 use Rattle.joint.specs.Lost.{LostCorrects, LostEnds}
-use Rattle.joint.specs.Working.{Ready, RestEnds}
+use Rattle.joint.specs.Working.{ReadyLost, RestEnds}
 use Rattle.joint.proofs.Lost.{others-by, found-count, fill-room, corrected-by}
 use borrow.Author.Needs.{needs}
 use Rattle.joint.proofs.work_lost.Statement.{statement}
@@ -33,7 +33,7 @@ module _ (c : tie.After-decode-rest) where
   abbrev y : List ℕ
   y = start .args .received .now
 
-  ready : Ready code (start .args .limit) L y
+  ready : ReadyLost code (start .args .limit) L y
   ready = start .pre .0 .0
 
   abbrev left : ℕ
@@ -98,9 +98,9 @@ complete-requires c κs =
     let r = ready d in
     let h = corrects d (told e .0) (told e .1) in
     rw (count d) (rw (← (rest d .flags)) (
-      (r .counts, r .proper),
+      record { counts = r .counts; proper = r .proper; received = r .received },
       (
-        (r .received, r .remain .lost .below),
+        r .remain .lost .below,
         (
           (
             found-count (code d) (L d) (r .proper) (r .remain) (r .received) h,

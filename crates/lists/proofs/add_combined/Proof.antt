@@ -6,7 +6,7 @@ use native.Mathlib.Omega.{arith}
 use lib.ListN.{length}
 use Rattle.patch.proofs.Loops.{Filling, filling, slot, unfilled, turn, kept-length, filled}
 use Rattle.field.specs.Symbols.{plus}
-use Rattle.lists.specs.Combining.{addedBy}
+use Rattle.lists.specs.Working.Combining.{addedBy}
 use borrow.Author.Needs.{needs}
 use Rattle.lists.proofs.add_combined.Statement.{statement}
 use Rattle.lists.proofs.add_combined.Tie as tie

@@ -9,7 +9,7 @@ use lib.Pow.{pow-pos}
 use Rattle.patch.proofs.Loops.{Filling, filling, slot, unfilled, turn, kept-length, filled}
 use Rattle.field.specs.Symbols.{plus, times}
 use Rattle.field.proofs.Products.{cut-left}
-use Rattle.lists.specs.Lists.{added}
+use Rattle.lists.specs.Working.Lists.{added}
 use borrow.Author.Needs.{needs}
 use Rattle.lists.proofs.add_few.Statement.{statement}
 use Rattle.lists.proofs.add_few.Tie as tie

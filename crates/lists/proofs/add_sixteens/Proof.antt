@@ -6,7 +6,7 @@ use Rattle.patch.proofs.Laws.{patch-none, patch-cong}
 use Rattle.field.specs.Symbols.{plus}
 use Rattle.field.proofs.Instance.{tested}
 use Rattle.field.proofs.Doublings.{doublings-short}
-use Rattle.lists.specs.Lists.{added}
+use Rattle.lists.specs.Working.Lists.{added}
 use Rattle.lists.proofs.Combined.{combined-times}
 use borrow.Author.Needs.{needs}
 use Rattle.lists.proofs.add_sixteens.Statement.{statement}

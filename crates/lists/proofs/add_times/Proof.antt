@@ -4,7 +4,7 @@ use mathlib.Core.Path.{sym}
 use native.Mathlib.Omega.{arith}
 use lib.ListN.{length}
 use lib.Seq.{length-take-le}
-use Rattle.lists.specs.Lists.{Adding}
+use Rattle.lists.specs.Working.Lists.{Adding}
 use Rattle.lists.proofs.InParts.{whole-sixteens, front-adding, back-adding, added-parts}
 use borrow.Author.Needs.{needs}
 use Rattle.lists.proofs.add_times.Statement.{statement}

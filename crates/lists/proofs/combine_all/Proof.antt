@@ -5,7 +5,7 @@ use Prim.Native.Nat.{_+_, _-_, _<_}
 use native.Mathlib.Omega.{arith}
 use lib.ListN.{length}
 use Rattle.patch.proofs.Loops.{Filling, filling, slot, unfilled, turn, kept-length, filled}
-use Rattle.lists.specs.Combining.{combined, combinedBy}
+use Rattle.lists.specs.Working.Combining.{combined, combinedBy}
 use borrow.Author.Needs.{needs}
 use Rattle.lists.proofs.combine_all.Statement.{statement}
 use Rattle.lists.proofs.combine_all.Tie as tie

@@ -4,7 +4,7 @@ use mathlib.Core.Path.{sym}
 use native.Mathlib.Omega.{arith}
 use lib.ListN.{length}
 use lib.Seq.{length-take-le}
-use Rattle.lists.specs.Lists.{Multiplying}
+use Rattle.lists.specs.Working.Lists.{Multiplying}
 use Rattle.lists.proofs.InParts.{whole-sixteens, front-multiplying, back-multiplying, multiplied-parts}
 use borrow.Author.Needs.{needs}
 use Rattle.lists.proofs.multiply.Statement.{statement}

@@ -5,7 +5,7 @@ use native.Mathlib.Omega.{arith}
 use lib.ListN.{length}
 use Rattle.patch.proofs.Loops.{Filling, filling, slot, kept-length, filled}
 use Rattle.field.specs.Symbols.{plus}
-use Rattle.lists.specs.Lists.{multiplied}
+use Rattle.lists.specs.Working.Lists.{multiplied}
 use Rattle.lists.proofs.InParts.{left-symbol, right-symbol, multiplied-turn}
 use borrow.Author.Needs.{needs}
 use Rattle.lists.proofs.multiply_by_bits.Statement.{statement}

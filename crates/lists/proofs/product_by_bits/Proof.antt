@@ -3,7 +3,7 @@
 use mathlib.Core.Path.{refl, _∙_}
 use lib.Pow.{pow-pos}
 use Rattle.refusal.proofs.Laws.{up-to-eight}
-use Rattle.lists.specs.Combining.{Reducer}
+use Rattle.lists.specs.Working.Combining.{Reducer}
 use Rattle.lists.proofs.Combined.{eight, sixteenth, low-zero, low-times}
 use borrow.Author.Needs.{needs}
 use Rattle.lists.proofs.product_by_bits.Statement.{statement}

@@ -6,7 +6,7 @@ use native.Mathlib.Omega.{arith}
 use Rattle.patch.proofs.Laws.{patch-cong}
 use Rattle.field.proofs.Instance.{tested}
 use Rattle.field.proofs.Doublings.{doublings-short}
-use Rattle.lists.specs.Lists.{scaled}
+use Rattle.lists.specs.Working.Lists.{scaled}
 use Rattle.lists.proofs.Combined.{combined-times}
 use borrow.Author.Needs.{needs}
 use Rattle.lists.proofs.scale.Statement.{statement}

@@ -20,12 +20,6 @@ nothing-above d a (no h) = rw (div-eq-of-lt (small h)) (sym (lt-leb (2 ^ d) a (s
     small : (2 ^ d ≤ a → ⊥) → a < 2 ^ d
     small k = omega arith
 
-cast-result : tie.Need-cast-result
-cast-result c = search needs
-
-shr-result : tie.Need-shr-result
-shr-result c = search needs
-
 returns : tie.Need-returns
 unfolding outsideField
 returns c = nothing-above (c .before .args .degree) (c .before .args .a) (decLe _ _)
@@ -36,4 +30,4 @@ returns-2 c =
     sym (lt-leb _ _ (lt-of-lt-of-le (c .before .fits .a .fits) (pow-mono (c .if1 .left))))
 
 pub outside-field-spec : {M : Type 1} → statement M
-outside-field-spec = tie.close (tie.spec cast-result shr-result returns returns-2)
+outside-field-spec = tie.close (tie.spec (λ c. search needs) (λ c. search needs) returns returns-2)

@@ -2,13 +2,14 @@
 -- Assumes nothing.
 use mathlib.Core.Path.{_≡_, sym, _∙_}
 use mathlib.Core.Logic.{⊎-elim}
-use mathlib.Core.Bool.{false}
+use mathlib.Core.Bool.{true, false}
 use mathlib.Core.List.{List}
 use Prim.Native.Nat.{ℕ, _+_, _-_, _≤_, _<_}
 use native.Mathlib.Decide.{decLt}
 use native.Mathlib.Omega.{arith}
 use lib.ListN.{length, getD}
 use borrow.Author.Count.{below-more}
+use Rattle.refusal.specs.Refusal.{repeated}
 use Rattle.refusal.proofs.Repeats.{repeats, repeats-not}
 use borrow.Author.Needs.{needs}
 use Rattle.refusal.proofs.repeated.Statement.{statement}
@@ -44,77 +45,52 @@ last l i j h p q n k r e = go (decLt k j)
     go (yes b) = h k b e
     go (no b) = let here : k ≡ j = omega arith in n (omega arith) (rw here at e)
 
+-- where entry i is compared: the entries that stood before it, and that i is one
+module _ (c : tie.At-loop Inv-loop μ-loop Inv-points μ-points) where
+  abbrev xs : List ℕ
+  xs = c .before .before .before .args .xs .now
+
+  abbrev i : ℕ
+  i = c .before .before .points .i
+
+  found : {j : ℕ} → j < i → getD xs j 0 ≡ getD xs i 0 → true ≡ repeated xs
+  found h e = sym (repeats xs _ _ h (c .before .points-test .taken) e)
+
+-- where two of them are compared
+abbrev turn : tie.Else1 Inv-loop μ-loop Inv-points μ-points → tie.In-loop Inv-loop μ-loop Inv-points μ-points
+turn c = c .before .before .before
+
 loop-again : tie.Need-loop-again Inv-loop μ-loop Inv-points μ-points
-loop-again c =
-    let at = c .before .before .before .before .before .before .before in (
-      omega (arith, c .before .before .before .before .before .before .loop-test .taken),
+loop-again c = let first = c .before .before .before in
+    let at = turn first .before in (
+      omega (arith, turn first .loop-test .taken),
       at .loop .inv .1,
-      two-more (at .before .before .before .args .xs .now) (at .before .before .points .i) (at .loop .j) (at .loop .inv .2)
-          (c .before .before .before .if1 .left) (c .if2 .left),
+      two-more (xs at) (i at) (at .loop .j) (at .loop .inv .2) (first .if1 .left) (c .if2 .left),
     )
 
 points-again : tie.Need-points-again Inv-loop μ-loop Inv-points μ-points
-points-again c =
-    let at = c .before .before in
-    let start = at .before .before .before in
-    let i = at .before .before .points .i in (
-      omega (arith, at .before .points-test .taken),
-      at .loop .inv .1,
-      below-more _ _ (at .before .before .points .inv .2)
-          (last (start .args .xs .now) i (at .loop .j) (at .loop .inv .2) (at .loop .inv .0) (omega (arith, c .before .loop-test .left))
-          (λ h. ⊎-elim (λ w. w .3 .left) (λ w. absurd (omega (arith, w .left))) (c .if3 .came))),
-    )
+points-again c = let at = c .before .before in (
+  omega (arith, at .before .points-test .taken),
+  at .loop .inv .1,
+  below-more _ _ (at .before .before .points .inv .2)
+      (last (xs at) (i at) (at .loop .j) (at .loop .inv .2) (at .loop .inv .0) (omega (arith, c .before .loop-test .left))
+      (λ h. ⊎-elim (λ w. w .3 .left) (λ w. absurd (omega (arith, w .left))) (c .if3 .came))),
+)
 
 returns : tie.Need-returns Inv-loop μ-loop Inv-points μ-points
-returns c =
-    let xs = c .before .before .args .xs .now in
+returns c = let l = c .before .before .args .xs .now in
     let inv = c .before .points .inv in
-    let whole : c .before .points .i ≡ length xs = omega arith in
-    inv .1 ∙ sym (repeats-not xs (rw whole at (inv .2)))
-
-returns-2 : tie.Need-returns-2 Inv-loop μ-loop Inv-points μ-points
-returns-2 c =
-    let at = c .before .before .before .before in
-    sym (repeats (at .before .before .before .args .xs .now) _ _ (omega (arith, c .before .before .before .loop-test .taken))
-    (at .before .points-test .taken) (c .if1 .taken))
-
-returns-3 : tie.Need-returns-3 Inv-loop μ-loop Inv-points μ-points
-returns-3 c =
-    let at = c .before .before .before .before .before .before .before in
-    sym (repeats (at .before .before .before .args .xs .now) _ _ (c .before .before .before .before .before .before .loop-test .taken)
-    (at .before .points-test .taken) (c .if2 .taken))
-
-returns-4 : tie.Need-returns-4 Inv-loop μ-loop Inv-points μ-points
-returns-4 c =
-    let at = c .before .before .before .before .before in
-    sym (repeats (at .before .before .before .args .xs .now) _ _ (c .before .before .before .if3 .taken) (at .before .points-test .taken)
-    (c .if4 .taken))
+    let whole : c .before .points .i ≡ length l = omega arith in
+    inv .1 ∙ sym (repeats-not l (rw whole at (inv .2)))
 
 pub repeated-spec : {M : Type 1} → statement M
-repeated-spec =
-    tie.close
-    (tie.spec
-    Inv-loop
-    μ-loop
-    Inv-points
-    μ-points
-    (λ c. search needs)
-    (λ c. search needs)
-    (λ c. search needs)
-    (λ c. search needs)
-    (λ c. search needs)
-    (λ c. search needs)
-    (λ c. search needs)
-    (λ c. search needs)
-    (λ c. search needs)
-    (λ c. search needs)
+repeated-spec = tie.close (tie.spec Inv-loop μ-loop Inv-points μ-points
+    (λ c. search needs) (λ c. search needs) (λ c. search needs) (λ c. search needs) (λ c. search needs)
+    (λ c. search needs) (λ c. search needs) (λ c. search needs) (λ c. search needs) (λ c. search needs)
     loop-again
-    (λ c. search needs)
-    (λ c. search needs)
-    (λ c. search needs)
-    (λ c. search needs)
+    (λ c. search needs) (λ c. search needs) (λ c. search needs) (λ c. search needs)
     points-again
     returns
-    returns-2
-    returns-3
-    returns-4)
+    (λ c. let t = c .before .before .before in found (t .before) (omega (arith, t .loop-test .taken)) (c .if1 .taken))
+    (λ c. let t = turn (c .before .before .before) in found (t .before) (t .loop-test .taken) (c .if2 .taken))
+    (λ c. found (c .before .before .before .before .before) (c .before .before .before .if3 .taken) (c .if4 .taken)))

@@ -19,9 +19,9 @@ use borrow.Author.Needs.{needs}
 use Rattle.refusal.proofs.some_outside_field.Statement.{statement}
 use Rattle.refusal.proofs.some_outside_field.Tie as tie
 
-either : (d a b : ℕ) → outsideField d (bitOr a b) ≡ outsideField d a || outsideField d b
+outside-or : (d a b : ℕ) → outsideField d (bitOr a b) ≡ outsideField d a || outsideField d b
 unfolding outsideField
-either d a b = go (decLe _ _) (decLe _ _)
+outside-or d a b = go (decLe _ _) (decLe _ _)
   where
     go : Dec (2 ^ d ≤ a) → Dec (2 ^ d ≤ b) → leb (2 ^ d) (bitOr a b) ≡ leb (2 ^ d) a || leb (2 ^ d) b
     go (yes h) k = rw (le-leb _ a h) (le-leb (2 ^ d) (bitOr a b) (omega (arith, or-add-and a b, and-le-r a b)))
@@ -31,10 +31,10 @@ either d a b = go (decLe _ _) (decLe _ _)
         let q : b < 2 ^ d = omega arith in
         simp (lt-leb _ a p, lt-leb _ b q, lt-leb _ _ (or-lt d a b p q))
 
-next : (d b : ℕ) (l : List ℕ) (i : ℕ) → i < length l
+bits-drop : (d b : ℕ) (l : List ℕ) (i : ℕ) → i < length l
     → outsideField d b || someOutsideField d (drop i l) ≡ outsideField d (bitOr b (getD l i 0)) || someOutsideField d (drop (i + 1) l)
 unfolding someOutsideField
-next d b l i h = rw (add-one, drop-cons l i 0) (simp (either, or-assoc))
+bits-drop d b l i h = rw (add-one, drop-cons l i 0) (simp (outside-or, or-assoc))
 
 none-outside : (d : ℕ) (l : List ℕ) → 8 ≤ d → ((i : ℕ) → getD l i 0 < 2 ^ 8) → someOutsideField d l ≡ false
 unfolding outsideField someOutsideField
@@ -49,46 +49,20 @@ Inv-loop degree s bits₀ i₀ bits i =
 abbrev μ-loop : tie.MeasureT-loop
 μ-loop degree s bits₀ i₀ bits i = length s - i
 
-returns : tie.Need-returns Inv-loop μ-loop
-returns c = sym (none-outside _ _ (c .if1 .taken) (λ i. c .before .shared-slice-known .given i .fits))
-
 loop-holds : tie.Need-loop-holds Inv-loop μ-loop
 unfolding outsideField
-loop-holds c =
-    let d = c .before .before .args .degree in
-    (omega arith, rw (lt-leb (2 ^ d) 0 (pow-pos d)))
-
-shared-slice-read-bits : tie.Need-shared-slice-read-bits Inv-loop μ-loop
-shared-slice-read-bits c = search needs
-
-add-i : tie.Need-add-i Inv-loop μ-loop
-add-i c = search needs
-
-loop-less : tie.Need-loop-less Inv-loop μ-loop
-loop-less c = search needs
-
-loop-again : tie.Need-loop-again Inv-loop μ-loop
-loop-again c = (omega arith, sym (next _ _ _ _ (c .before .loop-test .taken)) ∙ c .before .before .loop .inv .1)
-
-outside-field-requires : tie.Need-outside-field-requires Inv-loop μ-loop
-outside-field-requires c κs = search needs
+loop-holds c = let d = c .before .before .args .degree in (omega arith, rw (lt-leb (2 ^ d) 0 (pow-pos d)))
 
 returns-2 : tie.Need-returns-2 Inv-loop μ-loop
 unfolding someOutsideField
-returns-2 c =
-    c .outside-field .ensures ∙ sym (or-false _) ∙ (rw (drop-of-length-le _ (c .before .loop-test .left)) at (c .before .before .loop .inv .1))
+returns-2 c = c .outside-field .ensures ∙ sym (or-false _)
+    ∙ (rw (drop-of-length-le _ (c .before .loop-test .left)) at (c .before .before .loop .inv .1))
 
 pub some-outside-field-spec : {M : Type 1} → statement M
-some-outside-field-spec =
-    tie.close
-    (tie.spec
-    Inv-loop
-    μ-loop
-    returns
+some-outside-field-spec = tie.close (tie.spec Inv-loop μ-loop
+    (λ c. sym (none-outside _ _ (c .if1 .taken) (λ i. c .before .shared-slice-known .given i .fits)))
     loop-holds
-    shared-slice-read-bits
-    add-i
-    loop-less
-    loop-again
-    outside-field-requires
+    (λ c. search needs) (λ c. search needs) (λ c. search needs)
+    (λ c. (omega arith, sym (bits-drop _ _ _ _ (c .before .loop-test .taken)) ∙ c .before .before .loop .inv .1))
+    (λ c κs. search needs)
     returns-2)

@@ -8,9 +8,9 @@ use lib.ListN.{length, take, replicate}
 use lib.Seq.{length-take-le}
 use Rattle.patch.specs.Parts.{lay}
 use Rattle.patch.proofs.Parts.{laid-front, length-lay}
-use Rattle.mark.specs.Code.{Code, codeOf}
-use Rattle.mark.specs.Lost.{lostFlags}
-use Rattle.mark.proofs.Lost.{lost-length}
+use Rattle.codes.specs.Code.{Code, codeOf}
+use Rattle.codes.specs.Lost.{lostFlags}
+use Rattle.codes.proofs.Lost.{lost-length}
 use Rattle.ending.proofs.Model.{filled}
 use Rattle.conditions.proofs.Places.{copied}
 use Rattle.finish.proofs.Filled.{rows-length}
@@ -37,7 +37,7 @@ module _ (c : tie.After-merge-flags) where
   marks = merged (lostFlags n (start .args .lost .now)) (start .args .wrong .now)
 
   few : n ≤ 96
-  few = start .pre .0 .0 .most-columns
+  few = start .pre .0 .counts .most-columns
 
   front : take n (c .merge-flags .result) ≡ marks
   front = c .merge-flags .ensures .1
@@ -49,13 +49,13 @@ module _ (c : tie.After-merge-flags) where
   size = ap length front ∙ marks-size
 
   cells : length y ≤ 384
-  cells = omega (arith, start .pre .1 .0 .0 .count, start .pre .0 .0 .cells)
+  cells = omega (arith, start .pre .0 .received .count, start .pre .0 .counts .cells)
 
   answer-size : length (filled code y (toFill marks)) ≡ length y
   answer-size =
       rows-length (start .args .degree) (toFill marks) (start .args .points .now) (fill-count marks ∙ marks-size)
-      (start .args .lengths .now) y (start .pre .1 .0 .0 .count)
-      ∙ sym (start .pre .1 .0 .0 .count)
+      (start .args .lengths .now) y (start .pre .0 .received .count)
+      ∙ sym (start .pre .0 .received .count)
 
 module _ (c : tie.After-fill-flagged) where
   abbrev merged-at : tie.After-merge-flags
@@ -80,13 +80,13 @@ module _ (c : tie.After-fill-flagged) where
 merge-flags-requires : tie.Need-merge-flags-requires
 merge-flags-requires c κs =
     let s = c .before .before .before .before .before .before .before in
-    (s .pre .0 .0 .most-columns, s .pre .1 .0 .1, s .pre .1 .1 .0 .0)
+    (s .pre .0 .counts .most-columns, s .pre .1 .0, s .pre .1 .1 .0 .0)
 
 fill-flagged-requires : tie.Need-fill-flagged-requires
 fill-flagged-requires c κs =
     let d = c .before .before in
     let p = start d .pre in
-    rw (front d) (p .0, ((p .1 .0 .0, refl), (marks-size d, p .1 .1 .0 .1)))
+    rw (front d) (p .0, (refl, (marks-size d, p .1 .1 .0 .1)))
 
 returns : tie.Need-returns
 returns c =

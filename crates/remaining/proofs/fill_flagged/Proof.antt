@@ -32,7 +32,7 @@ module _ (c : tie.After-flag-zeros) where
   stay = c .flag-zeros .last .1 .0
 
   few : n ≤ 96
-  few = start .pre .0 .0 .most-columns
+  few = start .pre .0 .counts .most-columns
 
   stays : take n stay ≡ zerosIn (start .args .flags .now)
   stays = front n (start .args .flags .now) (start .pre .1 .1 .0) few (c .flag-zeros .ensures .1)
@@ -64,12 +64,12 @@ module _ (c : tie.After-flag-zeros2) where
   to-fill = fills ∙ ap zerosIn (stays first)
 
 lend-requires : tie.Need-lend-requires
-lend-requires c κs = c .before .before .before .before .before .pre .0 .0 .degree
+lend-requires c κs = c .before .before .before .before .before .pre .0 .counts .degree
 
 flag-zeros-requires : tie.Need-flag-zeros-requires
 flag-zeros-requires c κs =
     let s = c .before .before .before .before .before .before .before in
-    omega (arith, s .pre .1 .1 .0, s .pre .0 .0 .most-columns)
+    omega (arith, s .pre .1 .1 .0, s .pre .0 .counts .most-columns)
 
 fill-requires : tie.Need-fill-requires
 fill-requires c κs =
@@ -77,7 +77,7 @@ fill-requires c κs =
     let s = start (first d) in (
       s .pre .0,
       (
-        (s .pre .1 .0 .0, c .before .before .before .before .before .before .before .before .before .before .before .lend .ensures, s .pre .1 .0 .1),
+        (c .before .before .before .before .before .before .before .before .before .before .before .lend .ensures, s .pre .1 .0),
         (fills d, stay-size (first d), rw (to-fill d) (s .pre .1 .1 .1)),
       ),
     )

@@ -8,8 +8,8 @@ use native.Mathlib.Omega.{arith}
 use lib.ListN.{length, take, drop, length-append, length-drop, drop-of-length-le}
 use lib.Seq.{drop-drop, length-take-le}
 use Rattle.patch.specs.Parts.{lay}
-use Rattle.patch.proofs.Parts.{length-lay, lay-none, lay-rest, behind}
-use Rattle.mark.specs.Lost.{right, rightRows}
+use Rattle.patch.proofs.Parts.{length-lay, lay-none, lay-rest, lay-behind}
+use Rattle.codes.specs.Lost.{right, rightRows}
 use Rattle.conditions.proofs.Places.{RowAt, next, next-row, row-room, row-size}
 use Rattle.finish.proofs.Marks.{right-most}
 use borrow.Author.Needs.{needs}
@@ -137,7 +137,7 @@ loop-again c =
       row,
       omega (arith, few g, turn d .loop .inv .1),
       ap length (stored g) ∙ length-lay at (gathered g) (turn d .loop .s) ∙ turn d .loop .inv .2,
-      behind at (gathered g) rest (turn d .loop .s) (sym (count g)) (stored g) size
+      lay-behind at (gathered g) rest (turn d .loop .s) (sym (count g)) (stored g) size
           ∙ ap (λ (v : List ℕ). lay at v (turn d .loop .s)) (sym more)
           ∙ turn d .loop .inv .3,
     )

@@ -6,10 +6,10 @@ use native.Mathlib.Omega.{arith}
 use lib.ListN.{length, set, drop}
 use lib.Seq.{drop-length}
 use Rattle.refusal.specs.Refusal.{isIn}
-use Rattle.mark.specs.Code.{flagsFrom}
-use Rattle.mark.specs.Lost.{lostFlags}
-use Rattle.mark.proofs.Parts.{all-at}
-use Rattle.mark.proofs.Lost.{lost-length, lost-more}
+use Rattle.codes.specs.Code.{flagsFrom}
+use Rattle.codes.specs.Lost.{lostFlags}
+use Rattle.codes.proofs.Parts.{all-at}
+use Rattle.codes.proofs.Lost.{lost-length, lost-more}
 use Rattle.conditions.proofs.Places.{next}
 use borrow.Author.Needs.{needs}
 use Rattle.remaining.proofs.lost_flags.Statement.{statement}

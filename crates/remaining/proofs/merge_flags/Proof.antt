@@ -7,9 +7,9 @@ use native.Mathlib.Omega.{arith}
 use lib.ListN.{length, take, replicate, length-replicate}
 use lib.Seq.{length-take-le}
 use Rattle.patch.proofs.Parts.{laid-front, length-lay}
-use Rattle.mark.specs.Lost.{lostFlags}
-use Rattle.mark.proofs.Parts.{all-map}
-use Rattle.mark.proofs.Lost.{lost-length}
+use Rattle.codes.specs.Lost.{lostFlags}
+use Rattle.codes.proofs.Parts.{all-map}
+use Rattle.codes.proofs.Lost.{lost-length}
 use Rattle.finish.specs.Working.{put}
 use Rattle.finish.proofs.Marks.{put-count}
 use Rattle.remaining.specs.Working.{merged}

@@ -7,10 +7,13 @@ use borrow.Author.Needs.{needs}
 use Rattle.ring.proofs.decode.Statement.{statement}
 use Rattle.ring.proofs.decode.Tie as tie
 
+abbrev start : tie.After-decode-lost → tie.Start
+start c = c .before .before .before .before .before .before .before .before .before
+
 returns : tie.Need-returns
 returns c =
     let d = c .before .before .before .before .before .before in
-    let a = d .before .before .before .before .before .before .before .before .before .args in
+    let a = start d .args in
     nothing-lost (given (a .q) (a .m) (a .limit) (a .received .now) (buffers (a .answer .now) (a .flags .now)) (a .space .now))
     (left (d .decode-lost .result) (buffers (d .decode-lost .last .1 .1 .1 .1 .1 .0) (d .decode-lost .last .1 .1 .1 .1 .1 .1 .0))
     (d .decode-lost .last .1 .1 .1 .1 .1 .1 .1 .0))

@@ -1,44 +1,49 @@
 -- `ring::decode_lost` refuses by the first check that applies, and else has the ring decoded.
 -- Assumes nothing.
 use mathlib.Core.Path.{_≡_, refl, sym, _∙_}
-use mathlib.Core.List.{List}
 use Prim.Native.Nat.{ℕ}
 use Rattle.refusal.specs.Refusal.{first}
 use Rattle.refusal.proofs.Keeping.{refuses, does}
-use Rattle.joint.specs.Promises.{buffers}
+use Rattle.ending.specs.declared.Ending.the-variants.{Refused}
+use Rattle.joint.specs.Promises.{Left, buffers, left, cleared}
 use Rattle.ring.specs.Promises.{Given, given}
-use Rattle.ring.proofs.Lost.{checksOf, refused, Ended}
+use Rattle.ring.specs.Lost.{checksLost}
+use Rattle.ring.proofs.Lost.{EndsAs}
 use borrow.Author.Needs.{needs}
 use Rattle.ring.proofs.decode_lost.Statement.{statement}
 use Rattle.ring.proofs.decode_lost.Tie as tie
 
-module _ (c : tie.After-lost-refusal) where
-  abbrev start : tie.Start
-  start = c .before .before .before .before .before .before
+abbrev start : tie.After-lost-refusal → tie.Start
+start c = c .before .before .before .before .before .before
 
-  abbrev L : List ℕ
-  L = start .args .lost .now
+abbrev asked : tie.Start → Given
+asked s = given (s .args .q) (s .args .m) (s .args .limit) (s .args .received .now)
+    (buffers (s .args .answer .now) (s .args .flags .now)) (s .args .space .now)
 
-  abbrev asked : Given
-  asked = given (start .args .q) (start .args .m) (start .args .limit) (start .args .received .now)
-      (buffers (start .args .answer .now) (start .args .flags .now)) (start .args .space .now)
+-- the refusal is the number of the first check that applies
+answered : (c : tie.After-lost-refusal) → c .lost-refusal .result ≡ first (checksLost (start c .args .lost .now) (asked (start c)))
+answered c = let a = start c .args in c .lost-refusal .ensures (a .answer .now) (a .flags .now) (a .space .now) refl refl refl
 
-  number : c .lost-refusal .result ≡ first (checksOf L asked)
-  number = c .lost-refusal .ensures (start .args .answer .now) (start .args .flags .now) (start .args .space .now) refl refl refl
+passes : (c : tie.Else1) → 0 ≡ first (checksLost (start (c .before) .args .lost .now) (asked (start (c .before))))
+passes c = sym (c .if1 .left) ∙ answered (c .before)
 
-none : (c : tie.Else1) → 0 ≡ first (checksOf (L (c .before)) (asked (c .before)))
-none c = sym (c .if1 .left) ∙ number (c .before)
+abbrev refused : tie.Start → ℕ → Left
+refused s k = left (Refused k) (asked s .lent) (asked s .space)
+
+abbrev Ended : tie.Start → Left → Type 0
+Ended s l = EndsAs (s .args .lost .now) (asked s) (l .ending) (l .buffers) × (l .space ≡ cleared (asked s .space))
 
 returns : tie.Need-returns
-returns c = refuses (checksOf (L (c .before)) (asked (c .before))) (refused (asked (c .before))) (Ended (L (c .before)) (asked (c .before)))
-    (number (c .before)) (c .if1 .taken)
+returns c =
+    let s = start (c .before) in
+    refuses (checksLost (s .args .lost .now) (asked s)) (refused s) (Ended s) (answered (c .before)) (c .if1 .taken)
 
 returns-2 : tie.Need-returns-2
 returns-2 c =
-    let d = c .before .before .before .before .before .before in
-    let e = d .before .before .before .before in
-    does (checksOf (L (e .before)) (asked (e .before))) (refused (asked (e .before))) (Ended (L (e .before)) (asked (e .before))) _
-    (none e) (d .decode-ring .ensures)
+    let decoded = c .before .before .before .before .before .before in
+    let clear = decoded .before .before .before .before in
+    let s = start (clear .before) in
+    does (checksLost (s .args .lost .now) (asked s)) (refused s) (Ended s) _ (passes clear) (decoded .decode-ring .ensures)
 
 pub decode-lost-spec : {M : Type 1} → statement M
 decode-lost-spec =
@@ -46,7 +51,7 @@ decode-lost-spec =
     (tie.spec
     (λ c κs. search needs)
     returns
-    (λ c κs. none (c .before .before .before))
+    (λ c κs. passes (c .before .before .before))
     (λ c. search needs)
     (λ c. search needs)
     (λ c. search needs)

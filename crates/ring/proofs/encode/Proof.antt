@@ -1,36 +1,43 @@
 -- `ring::encode` leaves what it promises.
 -- Assumes nothing.
 use mathlib.Core.Path.{_≡_, refl, sym, _∙_}
-use Rattle.refusal.specs.Refusal.{first}
-use Rattle.ring.specs.Checks.{encodeChecks}
-use Rattle.ring.proofs.Promised.{encode-refuses, encodes}
+use mathlib.Core.List.{List}
+use Rattle.refusal.specs.Refusal.{Check, first}
+use Rattle.refusal.proofs.Keeping.{refuses}
+use Rattle.mark.proofs.Promised.{writes}
+use Rattle.hermitian.specs.Ring.{ringWord}
+use Rattle.hermitian.specs.Checks.{encodeChecks}
 use borrow.Author.Needs.{needs}
 use Rattle.ring.proofs.encode.Statement.{statement}
 use Rattle.ring.proofs.encode.Tie as tie
 
--- no check applies
-passes : (c : tie.Else1) → 0 ≡ first
-    (encodeChecks (c .before .before .before .before .args .q) (c .before .before .before .before .args .m) (c .before .before .before .before .args .message .now) (c .before .before .before .before .args .word .now))
-passes c = sym (c .if1 .left) ∙ c .before .encode-refusal .ensures (c .before .before .before .before .args .word .now) refl
+abbrev start : tie.After-encode-refusal → tie.Start
+start c = c .before .before .before
 
-encode-refusal-requires : tie.Need-encode-refusal-requires
-encode-refusal-requires c κs = search needs
+abbrev checks : tie.Start → List Check
+checks s = encodeChecks (s .args .q) (s .args .m) (s .args .message .now) (s .args .word .now)
 
-returns : tie.Need-returns
-returns c = encode-refuses (c .before .before .before .before .args .q) (c .before .before .before .before .args .m)
-    (c .before .before .before .before .args .message .now) (c .before .before .before .before .args .word .now)
-    (c .before .encode-refusal .ensures (c .before .before .before .before .args .word .now) refl) (c .if1 .taken)
+-- the refusal is the number of the first check that applies
+answered : (c : tie.After-encode-refusal) → c .encode-refusal .result ≡ first (checks (start c))
+answered c = c .encode-refusal .ensures (start c .args .word .now) refl
 
-write-word-requires : tie.Need-write-word-requires
-write-word-requires c κs = passes (c .before)
-
-same-length : tie.Need-same-length
-same-length c = search needs
+passes : (c : tie.Else1) → 0 ≡ first (checks (start (c .before)))
+passes c = sym (c .if1 .left) ∙ answered (c .before)
 
 returns-2 : tie.Need-returns-2
-returns-2 c = encodes (c .before .before .before .before .before .before .before .before .args .q)
-    (c .before .before .before .before .before .before .before .before .args .m) (c .before .before .before .before .before .before .before .before .args .message .now) (c .before .before .before .before .before .before .before .before .args .word .now) (passes (c .before .before .before .before)) (c .before .before .write-word .ensures)
+returns-2 c =
+    let written = c .before .before in
+    let clear = written .before .before in
+    let s = start (clear .before) in
+    writes (checks s) (ringWord (s .args .q) (s .args .m) (s .args .message .now)) (s .args .word .now) (passes clear)
+    (written .write-word .ensures)
 
 pub encode-spec : {M : Type 1} → statement M
 encode-spec =
-    tie.close (tie.spec encode-refusal-requires returns write-word-requires same-length returns-2)
+    tie.close
+    (tie.spec
+    (λ c κs. search needs)
+    (λ c. refuses (checks (start (c .before))) _ _ (answered (c .before)) (c .if1 .taken))
+    (λ c κs. passes (c .before))
+    (λ c. search needs)
+    returns-2)

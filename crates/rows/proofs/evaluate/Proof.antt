@@ -34,19 +34,17 @@ multiplied c = reading (c .before .before .before)
 abbrev ended : tie.After-add-constant-arg Inv-loop μ-loop → tie.At-loop Inv-loop μ-loop
 ended c = c .before .before .before
 
-given : (c : tie.Start Inv-loop μ-loop)
-    → Evaluating (c .args .degree) (c .args .xs .now) (c .args .nodes .now) (c .args .us .now) (c .args .s .now) (c .args .at)
-given c =
-    let p = c .pre in
-    record {
-      degree = p .0 .0;
-      points = p .1 .0 .0;
-      nodes-in = p .1 .0 .1;
-      coefficients = p .1 .0 .2;
-      some = p .1 .1 .0;
-      enough = p .1 .1 .1;
-      room = p .1 .1 .2;
-    }
+given : (c : tie.Start Inv-loop μ-loop) → let a = c .args in
+    Evaluating (a .degree) (a .table .now) (a .xs .now) (a .nodes .now) (a .us .now) (a .s .now) (a .at)
+given c = let ((degree, table), ((points, nodes, coefficients), (some, enough, room))) = c .pre in record {
+  lent = record { degree = degree; table = table };
+  points = points;
+  nodes-in = nodes;
+  coefficients = coefficients;
+  some = some;
+  enough = enough;
+  room = room;
+}
 
 loop-holds : tie.Need-loop-holds Inv-loop μ-loop
 loop-holds c =
@@ -67,8 +65,8 @@ multiply-requires c κs =
     let g = given (start first) in
     let more = here .loop-test .taken in (
       (
-        g .degree,
-        start first .pre .0 .1,
+        g .lent .degree,
+        g .lent .table,
         symbol-at _ (a .nodes .now) _ (g .nodes-in) (omega (arith, places here, more)),
         symbol-at _ (a .us .now) _ (g .coefficients) (omega (arith, turn .inv .1, more)),
       ),

@@ -6,7 +6,7 @@ use lib.ListN.{length}
 use Rattle.patch.proofs.Loops.{Filling, filling, slot, turn, kept-length, filled}
 use Rattle.field.specs.Symbols.{plus}
 use Rattle.field.proofs.Instance.{field}
-use Rattle.rows.specs.Rows.{inverse}
+use Rattle.rows.specs.Working.Rows.{inverse}
 use Rattle.rows.proofs.Rounds.{divisor, divisor-symbol}
 use borrow.Author.Needs.{needs}
 use Rattle.rows.proofs.inverses.Statement.{statement}
@@ -29,16 +29,15 @@ unfolding plus
 quotient-from-requires c κs =
     let here = reading c in
     let a = start here .args in
-    let given = start here .pre .1 in
+    let given = start here .pre in
+    let good = given .lent .degree in
     let later : a .j + 1 + here .before .loop .i < length (a .points .now) = omega (arith, here .loop-test .taken) in
-    let one = field _ (given .degree) .one-in in
-    let symbol = divisor-symbol _ (given .degree) _ _ _ (given .points) (given .place) later in
-    (given .degree, (start here .pre .0, ((one, symbol), divisor _ (given .degree) _ _ _ (given .points) (omega arith) later)))
-
-slice-write-w : tie.Need-slice-write-w Inv-loop μ-loop
-slice-write-w c =
-    let here = reading (c .before) in
-    slot (here .before .loop .inv) (here .loop-test .taken) (omega (arith, start here .pre .1 .room))
+    record {
+      lent = given .lent;
+      left = field _ good .one-in;
+      right = divisor-symbol _ good _ _ _ (given .points) (given .place) later;
+      nonzero = divisor _ good _ _ _ (given .points) (omega arith) later;
+    }
 
 loop-again : tie.Need-loop-again Inv-loop μ-loop
 unfolding plus inverse
@@ -48,7 +47,14 @@ loop-again c =
 
 pub inverses-spec : {M : Type 1} → statement M
 inverses-spec =
-    tie.close (tie.spec Inv-loop μ-loop (λ c. filling) (λ c. search needs) (λ c. search needs) (λ c. search needs)
-    (λ c. search needs) (λ c. search needs) (λ c. search needs) quotient-from-requires (λ c. search needs)
-    slice-write-w (λ c. search needs) (λ c. search needs) loop-again (λ c. kept-length (c .before .loop .inv))
+    tie.close (tie.spec Inv-loop μ-loop
+    (λ c. filling)
+    (λ c. search needs) (λ c. search needs) (λ c. search needs) (λ c. search needs) (λ c. search needs) (λ c. search needs)
+    quotient-from-requires
+    (λ c. search needs)
+    (λ c. let here = reading (c .before) in
+    slot (here .before .loop .inv) (here .loop-test .taken) (omega (arith, start here .pre .room)))
+    (λ c. search needs) (λ c. search needs)
+    loop-again
+    (λ c. kept-length (c .before .loop .inv))
     (λ c. filled (c .before .loop .inv) (omega arith)))

@@ -21,18 +21,15 @@ long : (c : tie.After-store) → length (c .store .last .1 .0) ≡ length (start
 long c = c .store .kept .1 .0 ∙ length-set (start c .args .s .now) (start c .args .at) (start c .args .c)
 
 add-times-requires : tie.Need-add-times-requires
-add-times-requires c κs =
-    let pre = start (stored c) .pre in
-    (pre .0, omega (arith, pre .1, long (stored c)))
+add-times-requires c κs = let (given, room) = start (stored c) .pre in (given, omega (arith, room, long (stored c)))
 
 returns : tie.Need-returns
-returns c =
-    let first = stored (added c) in
-    let pre = start first .pre in
-    lin-stored _ (pre .0 .0) _ _ _ _ _ (pre .1) (first .store .ensures) (c .before .before .add-times .ensures)
+returns c = let first = stored (added c) in
+    let ((degree, table, node), room) = start first .pre in
+    lin-stored _ degree _ _ _ _ _ room (first .store .ensures) (c .before .before .add-times .ensures)
 
 pub linear-of-spec : {M : Type 1} → statement M
 linear-of-spec =
     tie.close (tie.spec (λ c. search needs) (λ c. search needs)
-    (λ c κs. rw length-set (omega (arith, c .before .before .before .pre .1))) add-times-requires
+    (λ c κs. let (given, room) = c .before .before .before .pre in rw length-set (omega (arith, room))) add-times-requires
     (λ c. c .before .before .add-times .kept .1 .1 .1 .1 .0 ∙ long (stored (added c))) returns)

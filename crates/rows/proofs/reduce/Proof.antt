@@ -32,10 +32,15 @@ abbrev round-of : tie.After-slice-known2 Inv-loop μ-loop → tie.After-round-ar
 round-of c = c .before .before .before
 
 given : (c : tie.Start Inv-loop μ-loop)
-    → Reducing (c .args .degree) (c .args .points .now) (c .args .k) (c .args .s .now) (c .args .at)
-given c =
-    let p = c .pre in
-    record { degree = p .0 .0; points = p .0 .2; rounds = p .1 .0 .0; few = p .1 .0 .1; room = p .1 .0 .2; symbols = p .1 .1 }
+    → Reducing (c .args .degree) (c .args .table .now) (c .args .points .now) (c .args .k) (c .args .s .now) (c .args .at)
+given c = let ((degree, table, points), ((rounds, few, room), symbols)) = c .pre in record {
+  lent = record { degree = degree; table = table };
+  points = points;
+  rounds = rounds;
+  few = few;
+  room = room;
+  symbols = symbols;
+}
 
 loop-holds : tie.Need-loop-holds Inv-loop μ-loop
 unfolding reduce
@@ -44,15 +49,12 @@ loop-holds c = (omega arith, sym (lay-part _ _ _ (given (c .before .before) .roo
 inverses-requires : tie.Need-inverses-requires Inv-loop μ-loop
 inverses-requires c κs =
     let here = c .before in
-    let g = given (start here) in (
-      start here .pre .0 .1,
-      record {
-        degree = g .degree;
-        points = g .points;
-        place = omega (arith, here .loop-test .taken, g .rounds);
-        room = omega (arith, here .before .loop .inv .2, g .few);
-      },
-    )
+    let g = given (start here) in record {
+      lent = g .lent;
+      points = g .points;
+      place = omega (arith, here .loop-test .taken, g .rounds);
+      room = omega (arith, here .before .loop .inv .2, g .few);
+    }
 
 array-share-prefix-w : tie.Need-array-share-prefix-w Inv-loop μ-loop
 array-share-prefix-w c = search needs
@@ -64,7 +66,7 @@ round-requires c κs =
     let g = given (start here) in
     let inverses = front-inverses _ (start here .args .points .now) (turn .j) (turn .w) (inverted c .inverses .ensures)
     (omega (arith, turn .inv .2, g .few)) in
-    (start here .pre .0 .1, next-round g (here .loop-test .taken) (turn .inv .1) inverses)
+    next-round g (here .loop-test .taken) (turn .inv .1) inverses
 
 loop-again : tie.Need-loop-again Inv-loop μ-loop
 loop-again c =
@@ -77,9 +79,9 @@ loop-again c =
     )
 
 returns : tie.Need-returns Inv-loop μ-loop
-returns c =
-    let whole : c .before .loop .j ≡ c .before .before .before .before .args .k = omega (arith, c .loop-test .left) in
-    rw (← whole) (c .before .loop .inv .1)
+returns c = let turn = c .before in
+    let whole : turn .loop .j ≡ turn .before .before .before .args .k = omega (arith, c .loop-test .left) in
+    rw (← whole) (turn .loop .inv .1)
 
 pub reduce-spec : {M : Type 1} → statement M
 reduce-spec =

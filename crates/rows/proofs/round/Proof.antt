@@ -11,16 +11,14 @@ abbrev start : tie.After-multiply-arg → tie.Start
 start c = c .before .before .before .before .before
 
 multiply-requires : tie.Need-multiply-requires
-multiply-requires c κs =
-    let given = start c .pre .1 in (
-      (given .degree, start c .pre .0, pow-pos _, given .symbols _ (given .place)),
-      (omega (arith, given .inverses .count), (inverse-symbols given, later-symbols given)),
-    )
-
-returns : tie.Need-returns
-returns c = round-multiplied (start (c .before .before .before) .pre .1) (c .before .before .multiply .ensures)
+multiply-requires c κs = let given = start c .pre in (
+  (given .lent .degree, given .lent .table, pow-pos _, given .symbols _ (given .place)),
+  (omega (arith, given .inverses .count), (inverse-symbols given, later-symbols given)),
+)
 
 pub round-spec : {M : Type 1} → statement M
-round-spec =
-    tie.close (tie.spec (λ c. search needs) (λ c. search needs) (λ c. search needs) (λ c. search needs)
-    multiply-requires (λ c. search needs) returns)
+round-spec = tie.close (tie.spec
+    (λ c. search needs) (λ c. search needs) (λ c. search needs) (λ c. search needs)
+    multiply-requires
+    (λ c. search needs)
+    (λ c. round-multiplied (start (c .before .before .before) .pre) (c .before .before .multiply .ensures)))

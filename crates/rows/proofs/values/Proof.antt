@@ -17,18 +17,17 @@ abbrev start : tie.After-evaluate-arg → tie.Start
 start c = c .before .before .before .before .before
 
 evaluate-requires : tie.Need-evaluate-requires
-evaluate-requires c κs =
-    let p = start c .pre in
-    (p .0, ((p .1 .0 .0, symbols-zeros _ 96, p .1 .0 .1), p .1 .1))
+evaluate-requires c κs = let (lent, ((points, coefficients), counts)) = start c .pre in
+    (lent, ((points, symbols-zeros _ 96, coefficients), counts))
 
 returns : tie.Need-returns
-returns c =
-    let first = start (c .before .before .before) in
+returns c = let first = start (c .before .before .before) in
+    let ((degree, table), (symbols, (some, few, room))) = first .pre in
     let a = first .args in
-    let 𝓕 = field (a .degree) (first .pre .0 .0) in
-    let plain = plain-values (gf (a .degree)) 𝓕 (replicate 96 0) _ _ (zeros (gf (a .degree)) 𝓕 96) (first .pre .1 .1 .1) in
-    c .before .before .evaluate .ensures ∙ ap (λ (v : List ℕ). lay (a .at) v (a .s .now)) plain
+    let A = gf (a .degree) in
+    let 𝓕 = field (a .degree) degree in
+    c .before .before .evaluate .ensures
+    ∙ ap (λ (v : List ℕ). lay (a .at) v (a .s .now)) (plain-values A 𝓕 (replicate 96 0) _ _ (zeros A 𝓕 96) few)
 
 pub values-spec : {M : Type 1} → statement M
-values-spec =
-    tie.close (tie.spec (λ c. search needs) evaluate-requires (λ c. search needs) returns)
+values-spec = tie.close (tie.spec (λ c. search needs) evaluate-requires (λ c. search needs) returns)

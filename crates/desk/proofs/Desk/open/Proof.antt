@@ -2,10 +2,11 @@
 -- Assumes nothing.
 use mathlib.Core.Path.{_≡_, sym, _∙_}
 use Rattle.refusal.specs.Refusal.{first}
-use Rattle.mark.specs.Code.{Code, codeOf}
-use Rattle.desk.specs.Desk.{openChecks}
+use Rattle.codes.specs.Code.{Code, codeOf}
+use Rattle.mark.specs.declared.Outcome.the-variants.{Done, Refused}
+use Rattle.desk.specs.Desk.{openChecks, zeroDesk, spareCode, opened}
 use Rattle.desk.proofs.Sound.{passed}
-use Rattle.desk.proofs.Promised.{opens, opens-not, made-open}
+use Rattle.desk.proofs.Promised.{hands, hands-not}
 use borrow.Author.Needs.{needs}
 use Rattle.desk.proofs.Desk.open.Statement.{statement}
 use Rattle.desk.proofs.Desk.open.Tie as tie
@@ -22,9 +23,10 @@ open-spec = tie.close (tie.spec
     (λ c κs. search needs) (λ c. search needs) (λ c. search needs) (λ c κs. search needs)
     (λ c. let some = c .before .before .before in
     let given = code (some .before) in
-    let kept = opens-not given _ (some .before .open-refusal .ensures) (some .if1 .taken) (c .zero .ensures) in
-    (kept, made-open given kept))
+    let kept = hands-not (openChecks given) (zeroDesk given) (zeroDesk spareCode) (some .before .open-refusal .ensures) (some .if1 .taken)
+    (c .zero .ensures) in
+    (kept, opened given (record { outcome = Refused (some .before .open-refusal .result); desk = c .zero .result }) kept))
     (λ c κs. let p = passed (code (c .before)) (none c) in (p .most-columns, p .most-rows))
     (λ c. let given = code (c .before .before) in
-    let kept = opens given (none (c .before)) (c .zero2 .ensures) in
-    (kept, made-open given kept)))
+    let kept = hands (openChecks given) (zeroDesk given) (zeroDesk spareCode) (none (c .before)) (c .zero2 .ensures) in
+    (kept, opened given (record { outcome = Done; desk = c .zero2 .result }) kept)))

@@ -3,7 +3,7 @@
 use native.Mathlib.Omega.{arith}
 use lib.ListN.{length}
 use Rattle.rows.proofs.Symbols.{symbols-zeros}
-use Rattle.mark.proofs.Passed.{largest-most}
+use Rattle.codes.proofs.Passed.{largest-most}
 use borrow.Author.Needs.{needs}
 use Rattle.desk.proofs.fit.misfits.Statement.{statement}
 use Rattle.desk.proofs.fit.misfits.Tie as tie

@@ -7,27 +7,32 @@ use Rattle.field.proofs.Products.{times-high}
 use Rattle.field.proofs.Instance.{generated}
 use Rattle.field.proofs.Reading.{product-is}
 use Rattle.field.proofs.Powers.{power-small, degree-within}
+use Rattle.field.specs.Working.Tables.{Exponent, Lent}
 use Rattle.field.proofs.tables.doubling.Statement.{statement}
 use Rattle.field.proofs.tables.doubling.Tie as tie
 
-returns : tie.Need-returns
-returns c =
-    let g = generated _ (c .before .pre .0) in
-    sym (times-high _ (g .tested) _ _ (c .if1 .taken))
+-- what is given
+module _ (s : tie.Start) where
+  lent : Lent (s .args .degree) (s .args .table .now)
+  lent = let (degree, (table, exponent)) = s .pre in record { degree = degree; table = table }
 
-add-power-from : tie.Need-add-power-from
-add-power-from c =
-    omega (arith, c .before .pre .1 .1 .within, c .if1 .left, field-size _ (c .before .pre .0), up-to-eight _ (c .before .pre .0))
+  exponent : Exponent (s .args .degree) (s .args .c) (s .args .e)
+  exponent = let (degree, (table, exponent)) = s .pre in exponent
 
 power-from-requires : tie.Need-power-from-requires
-power-from-requires c κs =
-    let within = degree-within _ (generated _ (c .before .pre .0)) in
-    (c .before .pre .0, (c .before .pre .1 .0, omega (arith, c .before .pre .1 .1 .within, c .if1 .left, within)))
+power-from-requires c κs = let s = c .before in
+    let few = degree-within _ (generated _ (lent s .degree)) in
+    record { lent = lent s; within = omega (arith, exponent s .within, c .if1 .left, few) }
 
 returns-2 : tie.Need-returns-2
-returns-2 c =
-    let g = generated _ (c .before .before .pre .0) in
-    c .power-from .ensures ∙ product-is _ g (power-small _ g _ (c .before .if1 .left)) (c .before .before .pre .1 .1)
+returns-2 c = let s = c .before .before in
+    let g = generated _ (lent s .degree) in
+    c .power-from .ensures ∙ product-is _ g (power-small _ g _ (c .before .if1 .left)) (exponent s)
 
 pub doubling-spec : {M : Type 1} → statement M
-doubling-spec = tie.close (tie.spec returns add-power-from power-from-requires returns-2)
+doubling-spec = tie.close (tie.spec
+    (λ c. sym (times-high _ (generated _ (lent (c .before) .degree) .tested) _ _ (c .if1 .taken)))
+    (λ c. let good = lent (c .before) .degree in
+    omega (arith, exponent (c .before) .within, c .if1 .left, field-size _ good, up-to-eight _ good))
+    power-from-requires
+    returns-2)

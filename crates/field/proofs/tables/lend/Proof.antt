@@ -6,7 +6,7 @@ use Prim.Native.Nat.{ℕ}
 use borrow.Author.Needs.{needs}
 use Rattle.refusal.proofs.Laws.{degrees}
 use Rattle.field.specs.Symbols.{plus, modulus, timesX}
-use Rattle.field.specs.Tables.{powers, placeOf, placesFrom, tableFrom, tableOf, IsTable}
+use Rattle.field.specs.Working.Tables.{powers, placeOf, placesFrom, tableFrom, tableOf, IsTable}
 use Rattle.field.proofs.tables.lend.Statement.{statement}
 use Rattle.field.proofs.tables.lend.Tie as tie
 

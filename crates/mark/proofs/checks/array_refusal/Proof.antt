@@ -2,15 +2,16 @@
 -- Assumes nothing.
 use mathlib.Core.Path.{_≡_, refl, sym, ap, ap₂, _∙_}
 use mathlib.Core.Bool.{not, _||_}
-use mathlib.Core.List.{List, _++_}
+use mathlib.Core.List.{List}
 use Prim.Native.Nat.{ℕ, _*_}
 use lib.Dec.{eqb, ltb}
-use lib.ListN.{length}
+use lib.ListN.{length, drop}
 use Rattle.refusal.specs.Refusal.{Check, first}
-use Rattle.refusal.proofs.Laws.{hit, miss}
-use Rattle.mark.specs.Code.{Code, codeOf, rows, columns}
-use Rattle.mark.specs.Checks.{wrongLength, spaceBytes, codeChecks}
-use Rattle.mark.proofs.Passed.{Counts, as-tested, stopped, passed-on, counts-of}
+use Rattle.refusal.proofs.Ladders.{hit, miss, stopped, passed-on}
+use Rattle.codes.specs.Code.{Code, codeOf, rows, columns}
+use Rattle.codes.specs.Checks.{wrongLength, spaceBytes, codeChecks, arrayChecks}
+use Rattle.codes.proofs.Passed.{Counts, as-tested, counts-of}
+use Rattle.mark.proofs.Rows.{sizes-of}
 use borrow.Author.Needs.{needs}
 use Rattle.mark.proofs.checks.array_refusal.Statement.{statement}
 use Rattle.mark.proofs.checks.array_refusal.Tie as tie
@@ -24,45 +25,53 @@ code c = codeOf (start c .args .degree) (start c .args .points .now) (start c .a
 counts : (c : tie.Else1) → Counts (code (c .before))
 counts c = counts-of (code (c .before)) (c .before .code-refusal .ensures) (c .if1 .left)
 
-onward : (c : tie.Else1) (ds : List Check) → first (codeChecks (code (c .before)) ++ ds) ≡ first ds
-onward c ds = passed-on (codeChecks (code (c .before))) ds tt (c .before .code-refusal .ensures) (c .if1 .left)
+-- where the lengths are tested, and where the points are: back to the checks of the code, and to the lengths
+abbrev passed : tie.After-cells → tie.After-code-refusal
+passed c = c .before .before
 
--- the four lengths, as the code tests them and as the definition does
-module _ (c : tie.After-cells) (a f w : List ℕ) where
-  abbrev lent : tie.Start
-  lent = start (c .before .before)
+abbrev fitting : tie.After-points-refusal → tie.After-cells
+fitting c = c .before .before
 
-  abbrev n : ℕ
-  n = columns (code (c .before .before))
+-- buffers of the lengths that the code was given, and that the first k checks do not apply to them
+module _ (a f w : List ℕ) where
+  abbrev checks : tie.After-code-refusal → List Check
+  checks c = arrayChecks (code c) (start c .args .received .now) a f w
 
-  abbrev cells : ℕ
-  cells = rows (code (c .before .before)) * n
+  abbrev Lent : tie.After-code-refusal → Type 0
+  Lent c = (length a ≡ start c .args .answer) × (length f ≡ start c .args .flags) × (length w ≡ start c .args .space)
 
-  lengths-are : length a ≡ lent .args .answer → length f ≡ lent .args .flags → length w ≡ lent .args .space
-      → (wrongLength cells (lent .args .received .now) || wrongLength cells a || wrongLength n f || ltb (length w) spaceBytes)
-      ≡ (not (eqb (length (lent .args .received .now)) (c .cells .result)) || not (eqb (lent .args .answer) (c .cells .result))
-      || not (eqb (lent .args .flags) n) || ltb (lent .args .space) spaceBytes)
-  lengths-are p q s = ap₂ _||_
+  abbrev Rest : ℕ → tie.After-code-refusal → Type 0
+  Rest k c = Lent c → first (checks c) ≡ first (drop k (checks c))
+
+  -- the four lengths, as the code tests them and as the definition does
+  lengths-are : (c : tie.After-cells) → Lent (passed c) → let s = start (passed c) .args in let n = columns (code (passed c)) in
+      let cells = rows (code (passed c)) * n in
+      (wrongLength cells (s .received .now) || wrongLength cells a || wrongLength n f || ltb (length w) spaceBytes)
+      ≡ (not (eqb (length (s .received .now)) (c .cells .result)) || not (eqb (s .answer) (c .cells .result))
+      || not (eqb (s .flags) n) || ltb (s .space) spaceBytes)
+  lengths-are c (p, q, s) = ap₂ _||_
       (ap₂ _||_
-      (ap₂ _||_ (as-tested (lent .args .received .now) refl (c .cells .ensures)) (as-tested a p (c .cells .ensures)))
+      (ap₂ _||_ (as-tested (start (passed c) .args .received .now) refl (c .cells .ensures)) (as-tested a p (c .cells .ensures)))
       (as-tested f q refl))
       (ap (λ (n : ℕ). ltb n spaceBytes) s)
 
-returns : tie.Need-returns
-returns c a f w p q s = stopped _ _ (c .before .code-refusal .ensures) (c .if1 .taken)
+  rest4 : (c : tie.Else1) → Rest 4 (c .before)
+  rest4 c h = passed-on (codeChecks (code (c .before))) _ tt (c .before .code-refusal .ensures) (c .if1 .left)
 
-cells-requires : tie.Need-cells-requires
-cells-requires c κs = (counts c .most-rows, counts c .most-columns)
+  rest5 : (c : tie.Else2) → Rest 5 (passed (c .before))
+  rest5 c h = rest4 (c .before .before) h ∙ miss _ _ _ (lengths-are (c .before) h ∙ c .if2 .left)
 
-returns-2 : tie.Need-returns-2
-returns-2 c a f w p q s = sym (onward (c .before .before) _ ∙ hit _ _ _ (lengths-are (c .before) a f w p q s ∙ c .if2 .taken))
-
-returns-3 : tie.Need-returns-3
-returns-3 c a f w p q s =
-    c .symbols-refusal .ensures
-    ∙ sym (onward (c .before .before .before) _ ∙ miss _ _ _ (lengths-are (c .before .before) a f w p q s ∙ c .before .if2 .left))
+  rest6 : (c : tie.Else3) → Rest 6 (passed (fitting (c .before)))
+  rest6 c h = rest5 (c .before .before) h ∙ passed-on _ _ tt (c .before .points-refusal .ensures) (c .if3 .left)
 
 pub array-refusal-spec : {M : Type 1} → statement M
-array-refusal-spec =
-    tie.close
-    (tie.spec (λ c κs. search needs) returns cells-requires returns-2 (λ c κs. search needs) returns-3)
+array-refusal-spec = tie.close (tie.spec
+    (λ c κs. search needs)
+    (λ c a f w p q s. stopped _ _ (c .before .code-refusal .ensures) (c .if1 .taken))
+    (λ c κs. sizes-of (counts c))
+    (λ c a f w p q s. sym (rest4 a f w (c .before .before) (p, q, s)
+    ∙ hit _ _ _ (lengths-are a f w (c .before) (p, q, s) ∙ c .if2 .taken)))
+    (λ c κs. search needs)
+    (λ c a f w p q s. stopped _ _ (c .before .points-refusal .ensures) (c .if3 .taken) ∙ sym (rest5 a f w (c .before .before) (p, q, s)))
+    (λ c κs. search needs)
+    (λ c a f w p q s. c .symbols-refusal .ensures ∙ sym (rest6 a f w (c .before) (p, q, s))))

@@ -6,11 +6,5 @@ use borrow.Author.Needs.{needs}
 use Rattle.mark.proofs.checks.cells.Statement.{statement}
 use Rattle.mark.proofs.checks.cells.Tie as tie
 
-mul-result : tie.Need-mul-result
-mul-result c = omega (arith, mul-le-mul (c .pre .0) (c .pre .1))
-
-returns : tie.Need-returns
-returns c = search needs
-
 pub cells-spec : {M : Type 1} → statement M
-cells-spec = tie.close (tie.spec mul-result returns)
+cells-spec = tie.close (tie.spec (λ c. omega (arith, mul-le-mul (c .pre .most-rows) (c .pre .most-columns))) (λ c. search needs))

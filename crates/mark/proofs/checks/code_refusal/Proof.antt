@@ -1,72 +1,47 @@
 -- `checks::code_refusal` is the number of the first of the checks 1 to 4 that applies.
 -- Assumes nothing.
-use mathlib.Core.Path.{sym, _∙_}
-use Rattle.refusal.specs.Refusal.{first}
+use mathlib.Core.Path.{_≡_, sym, _∙_}
+use mathlib.Core.List.{List}
+use Prim.Native.Nat.{ℕ}
+use lib.ListN.{drop}
+use Rattle.refusal.specs.Refusal.{Check, first}
+use Rattle.refusal.proofs.Ladders.{hit, miss, miss-last}
+use Rattle.codes.specs.Code.{codeOf}
+use Rattle.codes.specs.Checks.{shapeChecks}
 use borrow.Author.Needs.{needs}
 use Rattle.mark.proofs.checks.code_refusal.Statement.{statement}
 use Rattle.mark.proofs.checks.code_refusal.Tie as tie
 
-bad-degree-requires : tie.Need-bad-degree-requires
-bad-degree-requires c κs = search needs
+-- the checks, behind each of them, and that the first k do not apply
+abbrev checks1 : tie.After-bad-degree → List Check
+checks1 c = let s = c .before .before .before .args in shapeChecks (s .most) (codeOf (s .degree) (s .points .now) (s .lengths .now))
 
-returns : tie.Need-returns
-unfolding first
-returns c = simp (sym (c .before .bad-degree .ensures) ∙ c .if1 .taken)
+abbrev checks2 : tie.After-outside → List Check
+checks2 c = checks1 (c .before .before)
 
-outside-requires : tie.Need-outside-requires
-outside-requires c κs = search needs
+abbrev checks3 : tie.After-outside2 → List Check
+checks3 c = checks2 (c .before .before)
 
-returns-2 : tie.Need-returns-2
-unfolding first
-returns-2 c = simp (
-  sym (c .before .before .before .bad-degree .ensures) ∙ c .before .before .if1 .left,
-  sym (c .before .outside .ensures) ∙ c .if2 .taken,
-)
+abbrev Rest : ℕ → List Check → Type 0
+Rest k cs = first cs ≡ first (drop k cs)
 
-outside-requires-2 : tie.Need-outside-requires-2
-outside-requires-2 c κs = search needs
+rest1 : (c : tie.Else1) → Rest 1 (checks1 (c .before))
+rest1 c = miss _ _ _ (sym (c .before .bad-degree .ensures) ∙ c .if1 .left)
 
-returns-3 : tie.Need-returns-3
-unfolding first
-returns-3 c = simp (
-  sym (c .before .before .before .before .before .bad-degree .ensures) ∙ c .before .before .before .before .if1 .left,
-  sym (c .before .before .before .outside .ensures) ∙ c .before .before .if2 .left,
-  sym (c .before .outside2 .ensures) ∙ c .if3 .taken,
-)
+rest2 : (c : tie.Else2) → Rest 2 (checks2 (c .before))
+rest2 c = rest1 (c .before .before) ∙ miss _ _ _ (sym (c .before .outside .ensures) ∙ c .if2 .left)
 
-some-outside-requires : tie.Need-some-outside-requires
-some-outside-requires c κs = search needs
-
-returns-4 : tie.Need-returns-4
-unfolding first
-returns-4 c = simp (
-  sym (c .before .before .before .before .before .before .before .bad-degree .ensures)
-      ∙ c .before .before .before .before .before .before .if1 .left,
-  sym (c .before .before .before .before .before .outside .ensures) ∙ c .before .before .before .before .if2 .left,
-  sym (c .before .before .before .outside2 .ensures) ∙ c .before .before .if3 .left,
-  sym (c .before .some-outside .ensures) ∙ c .if4 .taken,
-)
-
-returns-5 : tie.Need-returns-5
-unfolding first
-returns-5 c = simp (
-  sym (c .before .before .before .before .before .before .before .bad-degree .ensures)
-      ∙ c .before .before .before .before .before .before .if1 .left,
-  sym (c .before .before .before .before .before .outside .ensures) ∙ c .before .before .before .before .if2 .left,
-  sym (c .before .before .before .outside2 .ensures) ∙ c .before .before .if3 .left,
-  sym (c .before .some-outside .ensures) ∙ c .if4 .left,
-)
+rest3 : (c : tie.Else3) → Rest 3 (checks3 (c .before))
+rest3 c = rest2 (c .before .before) ∙ miss _ _ _ (sym (c .before .outside2 .ensures) ∙ c .if3 .left)
 
 pub code-refusal-spec : {M : Type 1} → statement M
-code-refusal-spec =
-    tie.close
-    (tie.spec
-    bad-degree-requires
-    returns
-    outside-requires
-    returns-2
-    outside-requires-2
-    returns-3
-    some-outside-requires
-    returns-4
-    returns-5)
+code-refusal-spec = tie.close (tie.spec
+    (λ c κs. search needs)
+    (λ c. sym (hit _ _ _ (sym (c .before .bad-degree .ensures) ∙ c .if1 .taken)))
+    (λ c κs. search needs)
+    (λ c. sym (rest1 (c .before .before) ∙ hit _ _ _ (sym (c .before .outside .ensures) ∙ c .if2 .taken)))
+    (λ c κs. search needs)
+    (λ c. sym (rest2 (c .before .before) ∙ hit _ _ _ (sym (c .before .outside2 .ensures) ∙ c .if3 .taken)))
+    (λ c κs. search needs)
+    (λ c. sym (rest3 (c .before .before) ∙ hit _ _ _ (sym (c .before .some-outside .ensures) ∙ c .if4 .taken)))
+    (λ c. sym (rest3 (c .before .before) ∙ miss-last _ _ (sym (c .before .some-outside .ensures) ∙ c .if4 .left))))

@@ -5,11 +5,7 @@ use borrow.Author.Needs.{needs}
 use Rattle.mark.proofs.checks.encode_refusal.Statement.{statement}
 use Rattle.mark.proofs.checks.encode_refusal.Tie as tie
 
-buffers-refusal-requires : tie.Need-buffers-refusal-requires
-buffers-refusal-requires c κs = search needs
-
-returns : tie.Need-returns
-returns c a p = c .buffers-refusal .ensures (c .before .before .before .before .args .message .now) a refl p
-
 pub encode-refusal-spec : {M : Type 1} → statement M
-encode-refusal-spec = tie.close (tie.spec buffers-refusal-requires returns)
+encode-refusal-spec = tie.close (tie.spec
+    (λ c κs. search needs)
+    (λ c a p. c .buffers-refusal .ensures (c .before .before .before .before .args .message .now) a refl p))

@@ -1,9 +1,10 @@
 -- `checks::lost_refusal` is the number of the first check of decoding with lost columns that applies.
 -- Assumes nothing.
 use mathlib.Core.Path.{sym, _∙_}
-use Rattle.mark.specs.Code.{Code, codeOf}
-use Rattle.mark.proofs.Proper.{lengths-test}
-use Rattle.mark.proofs.Passed.{Counts, stopped, passed-on, counts-of-array}
+use Rattle.refusal.proofs.Ladders.{stopped, passed-on}
+use Rattle.codes.specs.Code.{Code, codeOf}
+use Rattle.codes.proofs.Proper.{lengths-test}
+use Rattle.codes.proofs.Passed.{Counts, counts-of-array}
 use borrow.Author.Needs.{needs}
 use Rattle.mark.proofs.checks.lost_refusal.Statement.{statement}
 use Rattle.mark.proofs.checks.lost_refusal.Tie as tie
@@ -17,22 +18,15 @@ code c = codeOf (start c .args .degree) (start c .args .points .now) (start c .a
 counts : (c : tie.Else1) → Counts (code (c .before))
 counts c = counts-of-array (code (c .before)) (start (c .before) .args .received .now) (c .before .array-refusal .ensures) (c .if1 .left)
 
-returns : tie.Need-returns
-returns c a f w p q s = stopped _ _ (c .before .array-refusal .ensures a f w p q s) (c .if1 .taken)
-
 remaining-refusal-requires : tie.Need-remaining-refusal-requires
-remaining-refusal-requires c κs =
-    let k = counts c in (
-      k .most-rows,
-      ((k .some-columns, k .most-columns), lengths-test 1 _ (start (c .before) .args .lengths .now) .1 (k .lengths)),
-    )
-
-returns-2 : tie.Need-returns-2
-returns-2 c a f w p q s =
-    let called = c .before .before in
-    c .remaining-refusal .ensures (start called .args .degree)
-    ∙ sym (passed-on _ _ tt (called .array-refusal .ensures a f w p q s) (c .before .if1 .left))
+remaining-refusal-requires c κs = let k = counts c in
+    (k .most-rows, ((k .some-columns, k .most-columns), lengths-test 1 _ (start (c .before) .args .lengths .now) .1 (k .lengths)))
 
 pub lost-refusal-spec : {M : Type 1} → statement M
-lost-refusal-spec =
-    tie.close (tie.spec (λ c κs. search needs) returns remaining-refusal-requires returns-2)
+lost-refusal-spec = tie.close (tie.spec
+    (λ c κs. search needs)
+    (λ c a f w p q s. stopped _ _ (c .before .array-refusal .ensures a f w p q s) (c .if1 .taken))
+    remaining-refusal-requires
+    (λ c a f w p q s. let called = c .before .before in
+    c .remaining-refusal .ensures (start called .args .degree)
+    ∙ sym (passed-on _ _ tt (called .array-refusal .ensures a f w p q s) (c .before .if1 .left))))

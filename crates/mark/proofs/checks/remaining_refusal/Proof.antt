@@ -2,20 +2,21 @@
 -- lost, so that as many points of the front serve for the limit.
 -- Assumes nothing.
 use mathlib.Core.Path.{_≡_, sym, _∙_}
-use mathlib.Core.List.{[], _∷_}
+use mathlib.Core.Bool.{false}
+use mathlib.Core.List.{List}
 use Prim.Native.Nat.{ℕ, _+_, _-_, _≤_}
 use native.Mathlib.Omega.{arith}
-use lib.Dec.{ltb}
-use lib.ListN.{length, take}
+use lib.ListN.{length, take, drop}
 use lib.Seq.{length-take-le}
 use borrow.Author.Tests.{lt-ltb, le-ltb}
-use Rattle.refusal.specs.Refusal.{_when_, first}
-use Rattle.refusal.proofs.Laws.{hit, miss}
-use Rattle.mark.specs.Code.{Code, codeOf, columns, largest, jointLimit}
-use Rattle.mark.specs.Lost.{core}
-use Rattle.mark.specs.Checks.{remainingChecks}
-use Rattle.mark.proofs.Proper.{lengths-test}
-use Rattle.mark.proofs.Lost.{columns-test, core-columns, within-largest, joint-same}
+use Rattle.refusal.specs.Refusal.{badColumns, first}
+use Rattle.refusal.proofs.Ladders.{hit, miss, miss-last}
+use Rattle.codes.specs.Code.{Code, codeOf, columns, largest, jointLimit}
+use Rattle.codes.specs.Lost.{core}
+use Rattle.codes.specs.Checks.{remainingChecks}
+use Rattle.codes.proofs.Proper.{lengths-test}
+use Rattle.codes.proofs.Lost.{columns-test, core-columns, within-largest, joint-same}
+use Rattle.mark.specs.Working.{Sizes}
 use borrow.Author.Needs.{needs}
 use Rattle.mark.proofs.checks.remaining_refusal.Statement.{statement}
 use Rattle.mark.proofs.checks.remaining_refusal.Tie as tie
@@ -26,102 +27,91 @@ start c = c .before .before .before .before
 abbrev code : tie.After-bad-columns → ℕ → Code
 code c d = codeOf d (start c .args .points .now) (start c .args .lengths .now)
 
+-- what the lengths and the points are, and that there is a column
+sizes : (s : tie.Start) → Sizes (s .args .lengths .now) (s .args .points .now) × (1 ≤ length (s .args .points .now))
+sizes s = let (rows, ((some, columns), lengths)) = s .pre in
+    (record { most-rows = rows; most-columns = columns; lengths = lengths-test 1 _ (s .args .lengths .now) .0 lengths }, some)
+
 -- where 16 does not apply
 module _ (c : tie.Else1) where
   abbrev here : tie.Start
   here = start (c .before)
 
+  abbrev lost : List ℕ
+  lost = here .args .lost .now
+
   abbrev left : ℕ
-  left = length (here .args .points .now) - length (here .args .lost .now)
+  left = length (here .args .points .now) - length lost
 
-  all : (d : ℕ) → columns (core (code (c .before) d) (here .args .lost .now)) + length (here .args .lost .now)
-      ≡ length (here .args .points .now)
-  all d = core-columns (code (c .before) d) (here .args .lost .now)
-      (columns-test _ (here .args .lost .now) (here .pre .1 .0 .0) .0 (sym (c .before .bad-columns .ensures) ∙ c .if1 .left))
+  abbrev remains : ℕ → Code
+  remains d = core (code (c .before) d) lost
 
-  remaining : (d : ℕ) → columns (core (code (c .before) d) (here .args .lost .now)) ≡ left
-  remaining d = omega (arith, all d)
+  no-sixteen : badColumns (length (here .args .points .now)) lost ≡ false
+  no-sixteen = sym (c .before .bad-columns .ensures) ∙ c .if1 .left
+
+  all : (d : ℕ) → columns (remains d) + length lost ≡ length (here .args .points .now)
+  all d = core-columns (code (c .before) d) lost (columns-test _ lost (sizes here .1) .0 no-sixteen)
 
   front : length (take left (here .args .points .now)) ≡ left
   front = length-take-le left (here .args .points .now) (omega arith)
 
-  seventeenth : (d : ℕ) → first (remainingChecks (code (c .before) d) (here .args .limit) (here .args .lost .now))
-      ≡ first ((17 when ltb (columns (core (code (c .before) d) (here .args .lost .now))) (largest (here .args .lengths .now)))
-      ∷ (8 when ltb (jointLimit (core (code (c .before) d) (here .args .lost .now))) (here .args .limit)) ∷ [])
-  seventeenth d = miss 16 _ _ (sym (c .before .bad-columns .ensures) ∙ c .if1 .left)
+  abbrev Rest : ℕ → Type 0
+  Rest k = (d : ℕ) → let cs = remainingChecks (code (c .before) d) (here .args .limit) lost in first cs ≡ first (drop k cs)
+
+  rest1 : Rest 1
+  rest1 d = miss _ _ _ no-sixteen
 
 -- where 17 does not either
 module _ (c : tie.Else2) where
-  abbrev before16 : tie.Else1
-  before16 = c .before .before
+  abbrev sixteen : tie.Else1
+  sixteen = c .before .before
 
-  enough : largest (here before16 .args .lengths .now) ≤ left before16
+  enough : largest (here sixteen .args .lengths .now) ≤ left sixteen
   enough = omega (arith, c .before .largest .ensures, c .if2 .left)
 
-  eighth : (d : ℕ) → first (remainingChecks (code (before16 .before) d) (here before16 .args .limit) (here before16 .args .lost .now))
-      ≡ first ((8 when ltb (jointLimit (core (code (before16 .before) d) (here before16 .args .lost .now)))
-      (here before16 .args .limit)) ∷ [])
-  eighth d = seventeenth before16 d
-      ∙ miss 17 _ _ (le-ltb (columns (core (code (before16 .before) d) (here before16 .args .lost .now))) _
-      (omega (arith, remaining before16 d, enough)))
+  rest2 : Rest sixteen 2
+  rest2 d = rest1 sixteen d ∙ miss _ _ _ (le-ltb (columns (remains sixteen d)) _ (omega (arith, all sixteen d, enough)))
 
 -- the limit that the code works out
-limit-is : (c : tie.After-joint-limit) (d : ℕ)
-    → c .joint-limit .result ≡ jointLimit
-    (core (code (before16 (c .before .before) .before) d) (here (before16 (c .before .before)) .args .lost .now))
-limit-is c d =
-    let at = before16 (c .before .before) in
-    c .joint-limit .ensures d ∙ joint-same d d _ _ (here at .args .lengths .now) (front at ∙ sym (remaining at d))
+module _ (c : tie.After-joint-limit) where
+  abbrev seventeen : tie.Else2
+  seventeen = c .before .before
 
-returns : tie.Need-returns
-returns c d = sym (hit 16 _ _ (sym (c .before .bad-columns .ensures) ∙ c .if1 .taken))
-
-sub-left : tie.Need-sub-left
-sub-left c = omega (arith, all c 0)
-
-returns-2 : tie.Need-returns-2
-returns-2 c d =
-    let at = c .before .before in
-    sym (seventeenth at d ∙ hit 17 _ _ (lt-ltb (columns (core (code (at .before) d) (here at .args .lost .now))) _
-    (omega (arith, remaining at d, c .before .largest .ensures, c .if2 .taken))))
-
-slice-aggregate-joint-limit : tie.Need-slice-aggregate-joint-limit
-slice-aggregate-joint-limit c = sym (front (before16 (c .before)))
+  limit-is : (d : ℕ) → c .joint-limit .result ≡ jointLimit (remains (sixteen seventeen) d)
+  limit-is d = let at = sixteen seventeen in
+      c .joint-limit .ensures d ∙ joint-same d d _ _ (here at .args .lengths .now) (front at ∙ omega (arith, all at d))
 
 joint-limit-requires : tie.Need-joint-limit-requires
 joint-limit-requires c κs =
-    let at = before16 (c .before) in
-    let w = lengths-test 1 _ (here at .args .lengths .now) .0 (here at .pre .1 .1) in (
-      here at .pre .0,
-      (
-        omega (arith, front at, here at .pre .1 .0 .1),
-        rw (front at) (lengths-test 1 _ (here at .args .lengths .now) .1 (within-largest _ _ _ w (enough (c .before)))),
-      ),
-    )
+    let at = sixteen (c .before) in
+    let (s, some) = sizes (here at) in
+    record {
+      most-rows = s .most-rows;
+      most-columns = omega (arith, front at, s .most-columns);
+      lengths = rw (front at) (within-largest _ _ _ (s .lengths) (enough (c .before)));
+    }
+
+returns-2 : tie.Need-returns-2
+returns-2 c d = let at = c .before .before in
+    sym (rest1 at d ∙ hit _ _ _ (lt-ltb (columns (remains at d)) _
+    (omega (arith, all at d, c .before .largest .ensures, c .if2 .taken))))
 
 returns-3 : tie.Need-returns-3
-returns-3 c d =
-    let at = c .before .before .before in
-    sym (eighth at d ∙ hit 8 _ _ (lt-ltb (jointLimit (core (code (before16 at .before) d) (here (before16 at) .args .lost .now))) _
-    (omega (arith, limit-is (c .before) d, c .if3 .taken))))
+returns-3 c d = let at = seventeen (c .before) in
+    sym (rest2 at d ∙ hit _ _ _ (lt-ltb (jointLimit (remains (sixteen at) d)) _ (omega (arith, limit-is (c .before) d, c .if3 .taken))))
 
 returns-4 : tie.Need-returns-4
-unfolding first
-returns-4 c d =
-    let at = c .before .before .before in
-    sym (eighth at d ∙ miss 8 _ [] (le-ltb (jointLimit (core (code (before16 at .before) d) (here (before16 at) .args .lost .now))) _
-    (omega (arith, limit-is (c .before) d, c .if3 .left))))
+returns-4 c d = let at = seventeen (c .before) in
+    sym (rest2 at d ∙ miss-last _ _ (le-ltb (jointLimit (remains (sixteen at) d)) _ (omega (arith, limit-is (c .before) d, c .if3 .left))))
 
 pub remaining-refusal-spec : {M : Type 1} → statement M
-remaining-refusal-spec =
-    tie.close
-    (tie.spec
+remaining-refusal-spec = tie.close (tie.spec
     (λ c κs. search needs)
-    returns
-    sub-left
+    (λ c d. sym (hit _ _ _ (sym (c .before .bad-columns .ensures) ∙ c .if1 .taken)))
+    (λ c. omega (arith, all c 0))
     (λ c κs. search needs)
     returns-2
-    slice-aggregate-joint-limit
+    (λ c. sym (front (sixteen (c .before))))
     joint-limit-requires
     returns-3
     returns-4)

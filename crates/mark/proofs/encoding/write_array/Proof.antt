@@ -1,100 +1,71 @@
 -- `encoding::write_array` releases the rows that were made: they are the code array.
 -- Assumes nothing.
-use mathlib.Core.Path.{_≡_, refl, sym, _∙_}
+use mathlib.Core.Path.{_≡_, sym, _∙_}
 use mathlib.Core.List.{List}
-use Prim.Native.Nat.{ℕ}
+use Prim.Native.Nat.{ℕ, _≤_}
 use native.Mathlib.Omega.{arith}
-use lib.ListN.{length, replicate, length-take}
+use lib.ListN.{length, take, replicate}
 use lib.Seq.{length-take-le}
-use Rattle.mark.specs.Code.{Code, codeOf, encoded}
-use Rattle.mark.specs.Checks.{codeChecks}
-use Rattle.mark.proofs.Passed.{PassedEncoding, encoding, front-passed}
-use Rattle.mark.proofs.Messages.{encoded-array}
-use Rattle.mark.proofs.Rows.{copied, released}
+use Rattle.codes.specs.Code.{Code, codeOf, encoded}
+use Rattle.codes.proofs.Messages.{encoded-array}
+use Rattle.mark.proofs.Rows.{take-copied, copied-lay, made}
 use borrow.Author.Needs.{needs}
 use Rattle.mark.proofs.encoding.write_array.Statement.{statement}
 use Rattle.mark.proofs.encoding.write_array.Tie as tie
 
-abbrev code : tie.Start → Code
-code s = codeOf (s .args .degree) (s .args .points .now) (s .args .lengths .now)
+-- where the points are copied: they are the caller's
+module _ (c : tie.After-copy) where
+  abbrev start : tie.Start
+  start = c .before .before .before .before .before .before .before
 
-passed : (c : tie.Start) → PassedEncoding (code c) (c .args .message .now) (c .args .array .now)
-passed c = encoding (code c) (c .args .message .now) (c .args .array .now) (c .pre)
+  abbrev code : Code
+  code = codeOf (start .args .degree) (start .args .points .now) (start .args .lengths .now)
 
-lend-requires : tie.Need-lend-requires
-lend-requires c κs = passed (c .before .before .before .before) .counts .degree
+  points : take (length (start .args .points .now)) (c .copy .last .1 .0) ≡ start .args .points .now
+  points = take-copied (start .args .points .now) (replicate 96 0) (c .copy .ensures .1)
 
-slice-aggregate-copy : tie.Need-slice-aggregate-copy
-slice-aggregate-copy c = search needs
+  enough : length (start .args .points .now) ≤ length (c .copy .last .1 .0)
+  enough = omega (arith, c .copy .kept .1 .0, start .pre .counts .most-columns)
 
-copy-requires : tie.Need-copy-requires
-copy-requires c κs = passed (c .before .before .before .before .before .before) .counts .most-columns
+-- where the rows are made
+module _ (c : tie.After-write-rows) where
+  abbrev here : tie.After-copy
+  here = c .before .before .before .before .before
 
-array-share-prefix-held : tie.Need-array-share-prefix-held
-array-share-prefix-held c =
-    let ok = passed (c .before .before .before .before .before .before .before .before .before) in
-    omega (arith, c .before .before .copy .kept .1 .0, ok .counts .most-columns)
+  abbrev rows : List ℕ
+  rows = c .write-rows .last .1 .1 .1 .1 .1 .0
 
-slice-aggregate-write-rows : tie.Need-slice-aggregate-write-rows
-slice-aggregate-write-rows c = sym (length-take-le _ _ (array-share-prefix-held (c .before)))
-
-slice-aggregate-write-rows-2 : tie.Need-slice-aggregate-write-rows-2
-slice-aggregate-write-rows-2 c = search needs
+  size : length (take (length (start here .args .array .now)) rows) ≡ length (start here .args .array .now)
+  size = let p = start here .pre in
+      length-take-le _ rows (omega (arith, c .write-rows .kept .1 .1 .1 .1 .1 .0, p .array, p .counts .cells))
 
 write-rows-requires : tie.Need-write-rows-requires
-write-rows-requires c κs =
-    let start = c .before .before .before .before .before .before .before .before .before .before .before in
-    let ok = passed start in
-    rw (copied (start .args .points .now) (replicate 96 0) (c .before .before .before .before .copy .ensures .1)) (
-      front-passed (codeChecks (code start)) _ tt (start .pre),
-      (
-        (record { symbols = ok .proper .symbols; distinct = ok .proper .distinct }, ok .message),
-        (c .before .before .before .before .before .before .lend .ensures, refl),
-      ),
-    )
-
-array-share-prefix-made : tie.Need-array-share-prefix-made
-array-share-prefix-made c =
-    let ok = passed (c .before .before .before .before .before .before .before .before .before .before .before .before .before) in
-    omega (arith, c .before .write-rows .kept .1 .1 .1 .1 .1 .0, ok .array, ok .counts .cells)
-
-slice-aggregate-copy-2 : tie.Need-slice-aggregate-copy-2
-slice-aggregate-copy-2 c =
-    sym (length-take-le _ (c .before .before .write-rows .last .1 .1 .1 .1 .1 .0) (array-share-prefix-made (c .before)))
-
-copy-requires-2 : tie.Need-copy-requires-2
-copy-requires-2 c κs =
-    let start = c .before .before .before .before .before .before .before .before .before .before .before .before .before .before .before in
-    omega (arith, length-take (length (start .args .array .now)) (c .before .before .before .write-rows .last .1 .1 .1 .1 .1 .0))
-
-same-length : tie.Need-same-length
-same-length c = search needs
+write-rows-requires c κs = let h = c .before .before .before .before in
+    let p = start h .pre in
+    rw (points h) (record { made = made (p .counts) (p .proper) (h .before .before .lend .ensures); message = p .message })
 
 returns : tie.Need-returns
-returns c =
-    let start = c .before .before .before .before .before .before .before .before .before .before .before .before .before .before .before .before .before .before in
-    let ok = passed start in
-    let v : List ℕ = encoded (code start) (start .args .message .now) in
-    let points = copied (start .args .points .now) (replicate 96 0)
-    (c .before .before .before .before .before .before .before .before .before .before .before .copy .ensures .1) in
-    let made = rw points at (c .before .before .before .before .before .before .write-rows .ensures) in
-    let size : length v ≡ length (start .args .array .now) = encoded-array (ok .proper) (ok .message) .count ∙ sym (ok .array) in
-    released v (replicate 384 0) (start .args .array .now) made size (omega (arith, ok .array, ok .counts .cells))
+returns c = let r = c .before .before .before .before .before .before in
+    let h = here r in
+    let s = start h in
+    let size = encoded-array (s .pre .proper) (s .pre .message) .count in
+    copied-lay (encoded (code h) (s .args .message .now)) (replicate 384 0) (s .args .array .now)
+    (rw (points h) at (r .write-rows .ensures))
+    (size ∙ sym (s .pre .array)) (omega (arith, size, s .pre .counts .cells))
     (c .before .before .copy2 .ensures .1)
 
 pub write-array-spec : {M : Type 1} → statement M
-write-array-spec =
-    tie.close
-    (tie.spec
-    lend-requires
-    slice-aggregate-copy
-    copy-requires
-    array-share-prefix-held
-    slice-aggregate-write-rows
-    slice-aggregate-write-rows-2
+write-array-spec = tie.close (tie.spec
+    (λ c κs. c .before .before .before .before .pre .counts .degree)
+    (λ c. search needs)
+    (λ c κs. c .before .before .before .before .before .before .pre .counts .most-columns)
+    (λ c. enough (c .before .before))
+    (λ c. sym (length-take-le _ _ (enough (c .before .before .before))))
+    (λ c. search needs)
     write-rows-requires
-    array-share-prefix-made
-    slice-aggregate-copy-2
-    copy-requires-2
-    same-length
+    (λ c. let p = start (here (c .before)) .pre in
+    omega (arith, c .before .write-rows .kept .1 .1 .1 .1 .1 .0, p .array, p .counts .cells))
+    (λ c. sym (size (c .before .before)))
+    (λ c κs. omega (arith, size (c .before .before .before)))
+    (λ c. search needs)
     returns)

@@ -1,28 +1,25 @@
 -- `encoding::write_rows` lays the values of each row behind those of the row before.
 -- Assumes nothing.
-use mathlib.Core.Path.{_≡_, refl, sym, _∙_}
+use mathlib.Core.Path.{_≡_, ap, _∙_}
 use mathlib.Core.List.{List}
 use Prim.Native.Nat.{ℕ, _+_, _-_}
 use native.Mathlib.Omega.{arith}
 use lib.ListN.{length, take, drop, length-drop, drop-of-length-le}
 use lib.Seq.{length-take-le}
 use Rattle.patch.specs.Parts.{lay}
-use Rattle.patch.proofs.Parts.{lay-none}
 use Rattle.field.specs.Arithmetic.{gf}
-use Rattle.mark.specs.Code.{Code, codeOf, encodedRows}
-use Rattle.mark.proofs.Parts.{all-take, all-drop}
-use Rattle.mark.proofs.Passed.{counts-of}
-use Rattle.mark.proofs.Rows.{Before, Place, first-place, next-place, bounds, encoded-more}
+use Rattle.poly.specs.Poly.{valuesAt}
+use Rattle.codes.specs.Code.{Code, codeOf, encodedRows}
+use Rattle.codes.proofs.Parts.{all-take, all-drop}
+use Rattle.mark.proofs.Rows.{Laid, Place, laid-first, laid-next, laid-last, bounds, encoded-more}
 use borrow.Author.Needs.{needs}
 use Rattle.mark.proofs.encoding.write_rows.Statement.{statement}
 use Rattle.mark.proofs.encoding.write_rows.Tie as tie
 
 abbrev Inv-loop : tie.InvT-loop
 Inv-loop table degree lengths points message s₀ from₀ at₀ l₀ s from at l =
-    Before (codeOf degree points lengths) l from at
-    × (length s ≡ length s₀)
-    × (lay at (encodedRows (gf degree) points (drop l lengths) (drop from message)) s
-    ≡ lay 0 (encodedRows (gf degree) points lengths message) s₀)
+    Laid (codeOf degree points lengths) l from at at (encodedRows (gf degree) points (drop l lengths) (drop from message))
+    (encodedRows (gf degree) points lengths message) s₀ s
 
 abbrev μ-loop : tie.MeasureT-loop
 μ-loop table degree lengths points message s₀ from₀ at₀ l₀ s from at l = length lengths - l
@@ -30,113 +27,69 @@ abbrev μ-loop : tie.MeasureT-loop
 abbrev code : tie.Start Inv-loop μ-loop → Code
 code s = codeOf (s .args .degree) (s .args .points .now) (s .args .lengths .now)
 
-abbrev entry : tie.After-wide Inv-loop μ-loop → tie.Start Inv-loop μ-loop
-entry c = c .before .before .before .before .before .before .before .before
+-- where a row's length is read: the row, and its places
+module _ (c : tie.After-wide Inv-loop μ-loop) where
+  abbrev turn : tie.In-loop Inv-loop μ-loop
+  turn = c .before .before
 
--- the row of a turn, and its places
-turn : (c : tie.After-wide Inv-loop μ-loop)
-    → let own = c .before .before .before .loop in Place (code (entry c)) (own .l) (own .from) (own .at) (c .wide .result)
-turn c = record {
-  counts = counts-of (code (entry c)) (entry c .pre .0) refl;
-  before = c .before .before .before .loop .inv .0;
-  here = c .before .before .loop-test .taken;
-  count = c .wide .ensures;
-}
+  abbrev start : tie.Start Inv-loop μ-loop
+  start = turn .before .before .before .before .before .before
 
-loop-holds : tie.Need-loop-holds Inv-loop μ-loop
-loop-holds c = (first-place (code (c .before .before .before .before)), refl, refl)
+  abbrev rest : List ℕ
+  rest = drop (turn .before .loop .from) (start .args .message .now)
 
-shared-slice-read-wide : tie.Need-shared-slice-read-wide Inv-loop μ-loop
-shared-slice-read-wide c = search needs
+  row : let own = turn .before .loop in Place (code start) (own .l) (own .from) (own .at) (c .wide .result)
+  row = record {
+    counts = start .pre .made .counts;
+    before = turn .before .loop .inv .places;
+    here = turn .loop-test .taken;
+    count = c .wide .ensures;
+  }
 
-wide-requires : tie.Need-wide-requires Inv-loop μ-loop
-wide-requires c κs = search needs
-
-add-values : tie.Need-add-values Inv-loop μ-loop
-add-values c = let b = bounds (turn c) in omega arith
-
-sub-values : tie.Need-sub-values Inv-loop μ-loop
-sub-values c = search needs
-
-part-values-start : tie.Need-part-values-start Inv-loop μ-loop
-part-values-start c = search needs
-
-part-values-end : tie.Need-part-values-end Inv-loop μ-loop
-part-values-end c = let b = bounds (turn c) in omega (arith, entry c .pre .1 .0 .1 .count)
+  size : turn .before .loop .from + c .wide .result - turn .before .loop .from ≡ c .wide .result
+  size = omega arith
 
 values-requires : tie.Need-values-requires Inv-loop μ-loop
-values-requires c κs =
-    let start = entry (c .before .before) in
-    let own = c .before .before .before .before .before .loop in
-    let here = turn (c .before .before) in
-    let b = bounds here in
-    let p : ℕ = own .from in
-    let k : ℕ = c .before .before .wide .result in
-    let m : List ℕ = start .args .message .now in
-    let e : p + k - p ≡ k = omega arith in
-    let size : length (take k (drop p m)) ≡ k =
-    length-take-le k (drop p m) (omega (arith, length-drop p m, start .pre .1 .0 .1 .count)) in
-    rw e (
-      (here .counts .degree, start .pre .1 .1 .0),
+values-requires c κs = let t = c .before .before in
+    let p = start t .pre in
+    let own = turn t .before .loop in
+    let b = bounds (row t) in
+    let k : ℕ = own .from + t .wide .result - own .from in
+    let count : length (take k (rest t)) ≡ k =
+    length-take-le k (rest t) (omega (arith, length-drop (own .from) (start t .args .message .now), p .message .count)) in (
+      (p .made .counts .degree, p .made .table),
       (
-        (start .pre .1 .0 .0 .symbols, all-take _ k (drop p m) (all-drop _ p m (start .pre .1 .0 .1 .symbols))),
-        (omega arith, omega arith, omega (arith, own .inv .1, start .pre .1 .1 .1)),
+        (p .made .proper .symbols, all-take _ k (rest t) (all-drop _ (own .from) _ (p .message .symbols))),
+        (omega (arith, count), omega (arith, count), omega (arith, own .inv .same, p .made .room)),
       ),
     )
 
-add-from : tie.Need-add-from Inv-loop μ-loop
-add-from c = let b = bounds (turn (c .before .before .before .before .before)) in omega arith
-
-add-at : tie.Need-add-at Inv-loop μ-loop
-add-at c = let b = bounds (turn (c .before .before .before .before .before)) in omega arith
-
-add-l : tie.Need-add-l Inv-loop μ-loop
-add-l c = search needs
-
-loop-less : tie.Need-loop-less Inv-loop μ-loop
-loop-less c = search needs
-
 loop-again : tie.Need-loop-again Inv-loop μ-loop
-loop-again c =
-    let here = turn (c .before .before .before .before .before) in
-    let start = entry (c .before .before .before .before .before) in
-    let own = c .before .before .before .before .before .before .before .before .loop in
-    let p : ℕ = own .from in
-    let k : ℕ = c .before .before .before .before .before .wide .result in
-    let e : p + k - p ≡ k = omega arith in (
-      next-place here,
-      c .before .before .values .kept .1 .1 .1 .1 .0 ∙ own .inv .1,
-      encoded-more here (start .args .message .now) (own .s)
-          (omega (arith, bounds here .symbols, own .inv .1, start .pre .1 .1 .1))
-          (rw e at (c .before .before .values .ensures))
-          ∙ own .inv .2,
-    )
-
-same-length : tie.Need-same-length Inv-loop μ-loop
-same-length c = search needs
+loop-again c = let v = c .before .before in
+    let t = v .before .before .before in
+    let own = turn t .before .loop in
+    let a = start t .args in
+    let values : ℕ → List ℕ = λ (k : ℕ). lay (own .at) (valuesAt (gf (a .degree)) (a .points .now) (take k (rest t))) (own .s) in
+    laid-next (own .inv) (row t) (v .values .kept .1 .1 .1 .1 .0)
+    (encoded-more (row t) (a .message .now) (own .s)
+    (omega (arith, bounds (row t) .symbols, own .inv .same, start t .pre .made .room))
+    (v .values .ensures ∙ ap values (size t)))
 
 returns : tie.Need-returns Inv-loop μ-loop
 unfolding encodedRows
-returns c = sym (lay-none _ _) ∙ (rw (drop-of-length-le _ (c .loop-test .left)) at (c .before .loop .inv .2))
+returns c = laid-last (c .before .loop .inv) (rw (drop-of-length-le _ (c .loop-test .left)))
 
 pub write-rows-spec : {M : Type 1} → statement M
-write-rows-spec =
-    tie.close
-    (tie.spec
-    Inv-loop
-    μ-loop
-    loop-holds
-    shared-slice-read-wide
-    wide-requires
-    add-values
-    sub-values
-    part-values-start
-    part-values-end
+write-rows-spec = tie.close (tie.spec Inv-loop μ-loop
+    (λ c. laid-first (code (c .before .before .before .before)) _ _)
+    (λ c. search needs) (λ c κs. search needs)
+    (λ c. let b = bounds (row c) in omega arith)
+    (λ c. search needs) (λ c. search needs)
+    (λ c. let b = bounds (row c) in omega (arith, start c .pre .message .count))
     values-requires
-    add-from
-    add-at
-    add-l
-    loop-less
+    (λ c. let b = bounds (row (c .before .before .before .before .before)) in omega arith)
+    (λ c. let b = bounds (row (c .before .before .before .before .before)) in omega arith)
+    (λ c. search needs) (λ c. search needs)
     loop-again
-    same-length
+    (λ c. search needs)
     returns)

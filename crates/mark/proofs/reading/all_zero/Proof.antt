@@ -3,11 +3,12 @@
 use mathlib.Core.Path.{_≡_, refl, sym}
 use mathlib.Core.Logic.{_↔_}
 use mathlib.Core.Bool.{true≢false}
+use mathlib.Core.List.{List}
 use Prim.Native.Nat.{ℕ, _+_, _-_, _≤_}
 use native.Mathlib.Omega.{arith}
 use lib.ListN.{length, getD, drop, drop-of-length-le}
 use Rattle.poly.specs.Poly.{All}
-use Rattle.mark.proofs.Parts.{all-cut}
+use Rattle.codes.proofs.Parts.{all-cut}
 use borrow.Author.Needs.{needs}
 use Rattle.mark.proofs.reading.all_zero.Statement.{statement}
 use Rattle.mark.proofs.reading.all_zero.Tie as tie
@@ -19,51 +20,29 @@ abbrev μ-loop : tie.MeasureT-loop
 μ-loop s i₀ i = length s - i
 
 -- in a turn the symbols from i on are zero exactly when the one at i is, and those behind it
-cut : (c : tie.In-loop Inv-loop μ-loop)
-    → let s = c .before .before .args .s .now in
-    let i = c .before .loop .i in
-    All (λ (a : ℕ). a ≡ 0) (drop i s) ↔ ((getD s i 0 ≡ 0) × All (λ (a : ℕ). a ≡ 0) (drop (i + 1) s))
-cut c = all-cut (λ (a : ℕ). a ≡ 0) (c .before .before .args .s .now) (c .before .loop .i) 0 (omega arith)
+module _ (c : tie.In-loop Inv-loop μ-loop) where
+  abbrev i : ℕ
+  i = c .before .loop .i
 
-loop-holds : tie.Need-loop-holds Inv-loop μ-loop
-loop-holds c = search needs
+  abbrev s : List ℕ
+  s = c .before .before .args .s .now
 
-shared-slice-read-if1 : tie.Need-shared-slice-read-if1 Inv-loop μ-loop
-shared-slice-read-if1 c = search needs
+  cut : All (λ (a : ℕ). a ≡ 0) (drop i s) ↔ ((getD s i 0 ≡ 0) × All (λ (a : ℕ). a ≡ 0) (drop (i + 1) s))
+  cut = all-cut (λ (a : ℕ). a ≡ 0) s i 0 (omega arith)
 
 returns : tie.Need-returns Inv-loop μ-loop
-returns c = (
-  λ e. absurd (true≢false (sym e)),
-  λ z. absurd
-      (c .if1 .taken (cut (c .before .before) .0 (c .before .before .before .loop .inv .1 .1 z) .0)),
-)
-
-add-i : tie.Need-add-i Inv-loop μ-loop
-add-i c = search needs
-
-loop-less : tie.Need-loop-less Inv-loop μ-loop
-loop-less c = search needs
+returns c = let t = c .before .before in
+    (λ e. absurd (true≢false (sym e)), λ z. absurd (c .if1 .taken (cut t .0 (t .before .loop .inv .1 .1 z) .0)))
 
 loop-again : tie.Need-loop-again Inv-loop μ-loop
-loop-again c =
-    let rest = c .before .before .before .loop .inv .1 in
-    (omega arith, (λ z. rest .0 (cut (c .before .before) .1 (c .if1 .left, z)), λ z. cut (c .before .before) .0 (rest .1 z) .1))
-
-returns-2 : tie.Need-returns-2 Inv-loop μ-loop
-returns-2 c =
-    let whole : length (c .before .before .args .s .now) ≤ c .before .loop .i = omega arith in
-    (λ e. c .before .loop .inv .1 .0 (rw (drop-of-length-le _ whole) tt), λ z. refl)
+loop-again c = let t = c .before .before in
+    let rest = t .before .loop .inv .1 in
+    (omega arith, (λ z. rest .0 (cut t .1 (c .if1 .left, z)), λ z. cut t .0 (rest .1 z) .1))
 
 pub all-zero-spec : {M : Type 1} → statement M
-all-zero-spec =
-    tie.close
-    (tie.spec
-    Inv-loop
-    μ-loop
-    loop-holds
-    shared-slice-read-if1
+all-zero-spec = tie.close (tie.spec Inv-loop μ-loop
+    (λ c. search needs) (λ c. search needs)
     returns
-    add-i
-    loop-less
+    (λ c. search needs) (λ c. search needs)
     loop-again
-    returns-2)
+    (λ c. (λ e. c .before .loop .inv .1 .0 (rw (drop-of-length-le _ (c .loop-test .left)) tt), λ z. refl)))

@@ -1,119 +1,78 @@
 -- `reading::write_message` releases the message that was made, where the array is a code array, and nothing otherwise.
 -- Assumes nothing.
 use mathlib.Core.Path.{_≡_, refl, sym, _∙_}
-use mathlib.Core.Bool.{true, false, true≢false}
+use mathlib.Core.Bool.{true≢false}
 use mathlib.Core.List.{List}
-use Prim.Native.Nat.{ℕ}
+use Prim.Native.Nat.{ℕ, _≤_}
 use native.Mathlib.Omega.{arith}
-use lib.ListN.{length, replicate, length-take}
+use lib.ListN.{length, take, replicate}
 use lib.Seq.{length-take-le}
-use Rattle.patch.specs.Parts.{lay}
-use Rattle.mark.specs.Code.{Code, codeOf, IsMessage, encoded, CodeArray}
-use Rattle.mark.specs.Checks.{codeChecks}
-use Rattle.mark.proofs.Passed.{PassedReading, reading, front-passed}
-use Rattle.mark.proofs.Rows.{copied, released}
+use Rattle.codes.specs.Code.{Code, codeOf}
+use Rattle.mark.specs.Working.{ArrayRead}
+use Rattle.mark.proofs.Rows.{take-copied, copied-lay, made}
 use borrow.Author.Needs.{needs}
 use Rattle.mark.proofs.reading.write_message.Statement.{statement}
 use Rattle.mark.proofs.reading.write_message.Tie as tie
 
-abbrev code : tie.Start → Code
-code s = codeOf (s .args .degree) (s .args .points .now) (s .args .lengths .now)
+-- where the points are copied: they are the caller's
+module _ (c : tie.After-copy) where
+  abbrev start : tie.Start
+  start = c .before .before .before .before .before .before .before
 
-passed : (c : tie.Start) → PassedReading (code c) (c .args .array .now) (c .args .message .now)
-passed c = reading (code c) (c .args .array .now) (c .args .message .now) (c .pre)
+  abbrev code : Code
+  code = codeOf (start .args .degree) (start .args .points .now) (start .args .lengths .now)
 
--- what was said of the array, at the caller's points
-said : (c : tie.After-read-array)
-    → let start = c .before .before .before .before .before .before .before .before .before .before .before .before in
-    let a = start .args .array .now in
-    (c .read-array .result ≡ true
-    → (m : List ℕ) × IsMessage (code start) m × (encoded (code start) m ≡ a)
-    × (c .read-array .last .1 .1 .1 .1 .1 .0 ≡ lay 0 m (replicate 384 0)))
-    × (c .read-array .result ≡ false → CodeArray (code start) a → ⊥)
-said c =
-    let start = c .before .before .before .before .before .before .before .before .before .before .before .before in
-    rw (copied (start .args .points .now) (replicate 96 0) (c .before .before .before .before .before .copy .ensures .1)) at
-    (c .read-array .ensures)
+  points : take (length (start .args .points .now)) (c .copy .last .1 .0) ≡ start .args .points .now
+  points = take-copied (start .args .points .now) (replicate 96 0) (c .copy .ensures .1)
 
-lend-requires : tie.Need-lend-requires
-lend-requires c κs = passed (c .before .before .before .before) .counts .degree
+  enough : length (start .args .points .now) ≤ length (c .copy .last .1 .0)
+  enough = omega (arith, c .copy .kept .1 .0, start .pre .counts .most-columns)
 
-slice-aggregate-copy : tie.Need-slice-aggregate-copy
-slice-aggregate-copy c = search needs
+-- where the array is read
+module _ (c : tie.After-read-array) where
+  abbrev here : tie.After-copy
+  here = c .before .before .before .before .before
 
-copy-requires : tie.Need-copy-requires
-copy-requires c κs = passed (c .before .before .before .before .before .before) .counts .most-columns
+  abbrev rows : List ℕ
+  rows = c .read-array .last .1 .1 .1 .1 .1 .0
 
-array-share-prefix-held : tie.Need-array-share-prefix-held
-array-share-prefix-held c =
-    let ok = passed (c .before .before .before .before .before .before .before .before .before) in
-    omega (arith, c .before .before .copy .kept .1 .0, ok .counts .most-columns)
+  size : length (take (length (start here .args .message .now)) rows) ≡ length (start here .args .message .now)
+  size = let p = start here .pre in
+      length-take-le _ rows (omega (arith, c .read-array .kept .1 .1 .1 .1 .1 .0, p .message, p .counts .fits, p .counts .cells))
 
-slice-aggregate-read-array : tie.Need-slice-aggregate-read-array
-slice-aggregate-read-array c = sym (length-take-le _ _ (array-share-prefix-held (c .before)))
-
-slice-aggregate-read-array-2 : tie.Need-slice-aggregate-read-array-2
-slice-aggregate-read-array-2 c = search needs
+  -- what was said of it, at the caller's points
+  said : ArrayRead (code here) (start here .args .array .now) (replicate 384 0) rows (c .read-array .result)
+  said = rw (points here) at (c .read-array .ensures)
 
 read-array-requires : tie.Need-read-array-requires
-read-array-requires c κs =
-    let start = c .before .before .before .before .before .before .before .before .before .before .before in
-    let ok = passed start in
-    rw (copied (start .args .points .now) (replicate 96 0) (c .before .before .before .before .copy .ensures .1)) (
-      front-passed (codeChecks (code start)) _ tt (start .pre),
-      (
-        (record { symbols = ok .proper .symbols; distinct = ok .proper .distinct }, ok .array),
-        (c .before .before .before .before .before .before .lend .ensures, refl),
-      ),
-    )
-
-array-share-prefix-made : tie.Need-array-share-prefix-made
-array-share-prefix-made c =
-    let ok = passed (c .before .before .before .before .before .before .before .before .before .before .before .before .before .before) in
-    omega (arith, c .before .before .read-array .kept .1 .1 .1 .1 .1 .0, ok .message, ok .counts .fits, ok .counts .cells)
-
-slice-aggregate-copy-2 : tie.Need-slice-aggregate-copy-2
-slice-aggregate-copy-2 c =
-    sym (length-take-le _ (c .before .before .before .read-array .last .1 .1 .1 .1 .1 .0) (array-share-prefix-made (c .before)))
-
-copy-requires-2 : tie.Need-copy-requires-2
-copy-requires-2 c κs =
-    let start = c .before .before .before .before .before .before .before .before .before .before .before .before .before .before .before .before in
-    omega (arith, length-take (length (start .args .message .now)) (c .before .before .before .before .read-array .last .1 .1 .1 .1 .1 .0))
-
-same-length : tie.Need-same-length
-same-length c = search needs
+read-array-requires c κs = let h = c .before .before .before .before in
+    let p = start h .pre in
+    rw (points h) (record { made = made (p .counts) (p .proper) (h .before .before .lend .ensures); array = p .array })
 
 returns : tie.Need-returns
-returns c =
-    let start = c .before .before .before .before .before .before .before .before .before .before .before .before .before .before .before .before .before .before .before in
-    let ok = passed start in
-    let old = start .args .message .now in
-    let good = c .before .before .before .before .before .if1 .taken in
-    let (m, message, codes, made) = said (c .before .before .before .before .before .before .before) .0 good in
-    let is : c .before .before .copy2 .last .1 .0 ≡ m = released m (replicate 384 0) old made
-    (message .count ∙ sym (ok .message))
-    (omega (arith, message .count, ok .counts .fits, ok .counts .cells))
+returns c = let then = c .before .before .before .before .before in
+    let r = then .before .before in
+    let s = start (here r) in
+    let (m, message, codes, laid) = said r .found (then .if1 .taken) in
+    let is : c .before .before .copy2 .last .1 .0 ≡ m = copied-lay m (replicate 384 0) (s .args .message .now) laid
+    (message .count ∙ sym (s .pre .message))
+    (omega (arith, message .count, s .pre .counts .fits, s .pre .counts .cells))
     (c .before .before .copy2 .ensures .1) in
-    (λ e. (rw is message, rw is codes), λ e. absurd (true≢false (sym good ∙ e)))
-
-returns-2 : tie.Need-returns-2
-returns-2 c = (λ e. absurd (true≢false (sym e ∙ c .if1 .left)), λ e. (said (c .before .before) .1 e, refl))
+    record { found = λ e. (rw is message, rw is codes); none = λ e. absurd (true≢false (sym (then .if1 .taken) ∙ e)) }
 
 pub write-message-spec : {M : Type 1} → statement M
-write-message-spec =
-    tie.close
-    (tie.spec
-    lend-requires
-    slice-aggregate-copy
-    copy-requires
-    array-share-prefix-held
-    slice-aggregate-read-array
-    slice-aggregate-read-array-2
+write-message-spec = tie.close (tie.spec
+    (λ c κs. c .before .before .before .before .pre .counts .degree)
+    (λ c. search needs)
+    (λ c κs. c .before .before .before .before .before .before .pre .counts .most-columns)
+    (λ c. enough (c .before .before))
+    (λ c. sym (length-take-le _ _ (enough (c .before .before .before))))
+    (λ c. search needs)
     read-array-requires
-    array-share-prefix-made
-    slice-aggregate-copy-2
-    copy-requires-2
-    same-length
+    (λ c. let p = start (here (c .before .before)) .pre in
+    omega (arith, c .before .before .read-array .kept .1 .1 .1 .1 .1 .0, p .message, p .counts .fits, p .counts .cells))
+    (λ c. sym (size (c .before .before .before)))
+    (λ c κs. omega (arith, size (c .before .before .before .before)))
+    (λ c. search needs)
     returns
-    returns-2)
+    (λ c. record { found = λ e. absurd (true≢false (sym e ∙ c .if1 .left)); none = λ e. (said (c .before .before) .none e, refl) }))

@@ -4,95 +4,82 @@ use mathlib.Core.Path.{sym, _∙_}
 use native.Mathlib.Omega.{arith}
 use lib.ListN.{replicate}
 use lib.Seq.{length-take-le}
-use Rattle.ring.proofs.Sizes.{bounds, tested}
-use Rattle.ring.proofs.Carried.{sides, y-room, columns-ring, ring-made}
+use Rattle.hermitian.proofs.Sizes.{Sides, sides, tested}
+use Rattle.ring.proofs.Turns.{y-room, columns-ring, ring-made}
 use borrow.Author.Needs.{needs}
 use Rattle.ring.proofs.carry.to_ring.Statement.{statement}
 use Rattle.ring.proofs.carry.to_ring.Tie as tie
 
-side-requires : tie.Need-side-requires
-side-requires c κs = search needs
+abbrev start : tie.After-side → tie.Start
+start c = c .before .before .before
 
-lend-requires : tie.Need-lend-requires
-lend-requires c κs = tested (c .before .before .before .args .q) (c .before .before .before .pre .0) .degree
+abbrev begun : tie.After-turn → tie.After-side
+begun c = c .before .before .before .before
 
-ordinates-requires : tie.Need-ordinates-requires
-ordinates-requires c κs = search needs
+abbrev turned : tie.After-ys → tie.After-turn
+turned c = c .before .before .before
 
-mul-turn : tie.Need-mul-turn
-mul-turn c = omega (
-  arith,
-  sides (c .before .before .before .before .before .args .q) (c .before .before .side .result)
-      (c .before .before .before .before .before .pre .0) (c .before .before .side .ensures) .3,
-)
-
-slice-aggregate-turn : tie.Need-slice-aggregate-turn
-slice-aggregate-turn c = search needs
+counts : (c : tie.After-side) → Sides (start c .args .q) (c .side .result)
+counts c = sides (start c .args .q) (c .side .result) (start c .pre .size) (c .side .ensures)
 
 turn-requires : tie.Need-turn-requires
 turn-requires c κs =
-    let start = c .before .before .before .before .before .before in
-    let s = sides (start .args .q) (c .before .before .before .side .result) (start .pre .0) (c .before .before .before .side .ensures) in
-    ((s .0, s .1, s .3), (start .pre .1 .count ∙ sym (s .4), omega (arith, s .5, bounds (start .args .q) (start .pre .0) .symbols)))
+    let d = c .before .before .before in
+    let n = counts d in
+    record {
+      some = n .some;
+      most-rows = omega (arith, n);
+      most-columns = n .columns;
+      count = start d .pre .array .count ∙ sym (n .cells);
+      room = omega (arith, n);
+    }
 
 array-share-prefix-ys : tie.Need-array-share-prefix-ys
-array-share-prefix-ys c = let start =
-    c .before .before .before .before .before .before .before .before .before in omega (arith, y-room (start .args .q) (start .pre .0) (c .before .before .before .before .ordinates .result) (c .before .before .before .before .ordinates .ensures), start .pre .1 .count)
-
-slice-aggregate-values-of : tie.Need-slice-aggregate-values-of
-slice-aggregate-values-of c = sym (length-take-le _ _ (array-share-prefix-ys (c .before)))
+array-share-prefix-ys c =
+    let d = c .before .before .before .before in
+    let s = start (d .before .before) in
+    omega (arith, y-room (s .args .q) (s .pre .size) (d .ordinates .result) (d .ordinates .ensures), s .pre .array .count)
 
 array-share-prefix-columns : tie.Need-array-share-prefix-columns
-array-share-prefix-columns c = let start =
-    c .before .before .before .before .before .before .before .before .before .before in omega (arith, c .before .before .before .turn .kept .1 .1 .1 .0, start .pre .1 .count, bounds (start .args .q) (start .pre .0) .symbols)
+array-share-prefix-columns c =
+    let d = begun (turned c) in
+    omega (arith, turned c .turn .kept .1 .1 .1 .0, start d .pre .array .count, counts d)
 
-slice-aggregate-values-of-2 : tie.Need-slice-aggregate-values-of-2
-slice-aggregate-values-of-2 c = sym (length-take-le _ _ (array-share-prefix-columns (c .before)))
-
-values-of-requires : tie.Need-values-of-requires
-values-of-requires c κs =
-    let start = c .before .before .before .before .before .before .before .before .before .before .before .before in
-    let q = start .args .q in
-    let size = start .pre .0 in (
-      (
-        size,
-        c .before .before .before .before .before .before .before .before .lend .ensures,
-        rw (start .pre .1 .count)
-            (c .before .before .before .before .before .before .before .ordinates .ensures),
-      ),
-      (
-        columns-ring q size (c .before .before .before .before .before .before .before .before .before .side .ensures) (start .pre .1)
-            (replicate 64 0) (bounds q size .symbols) (c .before .before .before .before .before .turn .ensures),
-        omega (arith, start .pre .2),
-      ),
-    )
-
-same-length : tie.Need-same-length
-same-length c = search needs
+carry-sectors-requires : tie.Need-carry-sectors-requires
+carry-sectors-requires c κs =
+    let t = turned (c .before .before) in
+    let d = begun t in
+    let p = start d .pre in
+    record {
+      size = p .size;
+      table = t .before .before .before .lend .ensures;
+      ordinates = rw (p .array .count) (t .before .before .ordinates .ensures);
+      ring = columns-ring (p .size) (d .side .ensures) (p .array) (replicate 64 0) (counts d .most) (t .turn .ensures);
+      room = omega (arith, p .room);
+    }
 
 returns : tie.Need-returns
 returns c =
-    let start = c .before .before .before .before .before .before .before .before .before .before .before .before .before .before .before in
-    let q = start .args .q in
-    let size = start .pre .0 in
-    ring-made q size (c .before .before .before .before .before .before .before .before .before .before .before .before .side .ensures)
-    (start .pre .1) (replicate 64 0) (bounds q size .symbols)
-    (c .before .before .before .before .before .before .before .before .turn .ensures) (start .args .ring .now) (start .pre .2) (c .before .before .values-of .ensures)
+    let t = turned (c .before .before .before .before .before) in
+    let d = begun t in
+    let p = start d .pre in
+    ring-made (p .size) (d .side .ensures) (p .array) (replicate 64 0) (counts d .most) (t .turn .ensures) (start d .args .ring .now)
+    (p .room) (c .before .before .carry-sectors .ensures)
 
 pub to-ring-spec : {M : Type 1} → statement M
 to-ring-spec =
     tie.close
     (tie.spec
-    side-requires
-    lend-requires
-    ordinates-requires
-    mul-turn
-    slice-aggregate-turn
+    (λ c κs. search needs)
+    (λ c κs. tested (start c .args .q) (start c .pre .size) .degree)
+    (λ c κs. search needs)
+    (λ c. omega (arith, counts (c .before .before)))
+    (λ c. search needs)
     turn-requires
     array-share-prefix-ys
-    slice-aggregate-values-of
+    (λ c. sym (length-take-le _ _ (array-share-prefix-ys (c .before))))
     array-share-prefix-columns
-    slice-aggregate-values-of-2
-    values-of-requires
-    same-length
+    (λ c. sym (length-take-le _ _ (array-share-prefix-columns (c .before))))
+    carry-sectors-requires
+    (λ c. search needs)
     returns)

@@ -2,43 +2,14 @@
 -- Assumes nothing.
 use mathlib.Core.Path.{_∙_}
 use native.Mathlib.Omega.{arith}
-use Rattle.ring.specs.Checks.{badOrder}
-use Rattle.ring.proofs.Sizes.{bounds}
-use Rattle.ring.proofs.Carried.{sides}
+use Rattle.hermitian.specs.Checks.{badOrder}
+use Rattle.hermitian.proofs.Sizes.{Sides, sides}
 use borrow.Author.Needs.{needs}
 use Rattle.ring.proofs.checks.bad_order.Statement.{statement}
 use Rattle.ring.proofs.checks.bad_order.Tie as tie
 
-side-requires : tie.Need-side-requires
-side-requires c κs = search needs
-
-mul-outside : tie.Need-mul-outside
-mul-outside c = omega (arith, sides (c .before .args .q) (c .side .result) (c .before .pre) (c .side .ensures) .3)
-
-sub-outside : tie.Need-sub-outside
-sub-outside c = sides (c .before .args .q) (c .side .result) (c .before .pre) (c .side .ensures) .2
-
-mul-outside-2 : tie.Need-mul-outside-2
-mul-outside-2 c = omega (arith, sides (c .before .args .q) (c .side .result) (c .before .pre) (c .side .ensures) .3)
-
-mul-outside-3 : tie.Need-mul-outside-3
-mul-outside-3 c = omega (
-  arith,
-  sides (c .before .args .q) (c .side .result) (c .before .pre) (c .side .ensures) .5,
-  bounds
-      (c .before .args .q) (c .before .pre) .symbols,
-)
-
-sub-outside-2 : tie.Need-sub-outside-2
-sub-outside-2 c = omega (
-  arith,
-  sides (c .before .args .q) (c .side .result) (c .before .pre) (c .side .ensures) .5,
-  bounds
-      (c .before .args .q) (c .before .pre) .some-symbols,
-)
-
-outside-requires : tie.Need-outside-requires
-outside-requires c κs = search needs
+counts : (c : tie.After-side) → Sides (c .before .args .q) (c .side .result)
+counts c = sides (c .before .args .q) (c .side .result) (c .before .pre) (c .side .ensures)
 
 returns : tie.Need-returns
 unfolding badOrder
@@ -48,11 +19,11 @@ pub bad-order-spec : {M : Type 1} → statement M
 bad-order-spec =
     tie.close
     (tie.spec
-    side-requires
-    mul-outside
-    sub-outside
-    mul-outside-2
-    mul-outside-3
-    sub-outside-2
-    outside-requires
+    (λ c κs. search needs)
+    (λ c. omega (arith, counts c))
+    (λ c. counts c .some-columns)
+    (λ c. omega (arith, counts c))
+    (λ c. omega (arith, counts c))
+    (λ c. omega (arith, counts c))
+    (λ c κs. search needs)
     returns)

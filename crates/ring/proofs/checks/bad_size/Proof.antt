@@ -1,7 +1,7 @@
 -- `checks::bad_size` answers its test.
 -- Assumes nothing.
 use borrow.Author.Tests.{eq-eqb, ne-eqb}
-use Rattle.ring.specs.Checks.{badSize}
+use Rattle.hermitian.specs.Checks.{badSize}
 use Rattle.ring.proofs.checks.bad_size.Statement.{statement}
 use Rattle.ring.proofs.checks.bad_size.Tie as tie
 

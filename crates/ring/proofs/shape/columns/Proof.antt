@@ -2,8 +2,8 @@
 -- Assumes nothing.
 use mathlib.Core.Path.{refl}
 use mathlib.Core.Logic.{⊎-elim}
-use Rattle.ring.specs.Ring.{numbers}
-use Rattle.ring.proofs.Sizes.{sizes}
+use Rattle.hermitian.specs.Ring.{numbers}
+use Rattle.hermitian.proofs.Sizes.{sizes}
 use Rattle.ring.proofs.shape.columns.Statement.{statement}
 use Rattle.ring.proofs.shape.columns.Tie as tie
 

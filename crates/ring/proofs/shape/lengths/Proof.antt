@@ -6,9 +6,9 @@ use native.Mathlib.Omega.{arith}
 use lib.ListN.{length, length-set}
 use Rattle.patch.specs.Patch.{patch}
 use Rattle.patch.proofs.Laws.{patch-none, patch-front}
-use Rattle.ring.specs.Ring.{ringLength}
-use Rattle.ring.proofs.Numbers.{front}
-use Rattle.ring.proofs.Sizes.{bounds}
+use Rattle.hermitian.specs.Ring.{ringLength}
+use Rattle.hermitian.proofs.Numbers.{front}
+use Rattle.hermitian.proofs.Sizes.{Sides, sides}
 use borrow.Author.Needs.{needs}
 use Rattle.ring.proofs.shape.lengths.Statement.{statement}
 use Rattle.ring.proofs.shape.lengths.Tie as tie
@@ -19,24 +19,14 @@ Inv-loop q m ks₀ j₀ ks j = (j ≤ q) × (length ks ≡ 4) × (ks ≡ patch 0
 abbrev μ-loop : tie.MeasureT-loop
 μ-loop q m ks₀ j₀ ks j = q - j
 
-loop-holds : tie.Need-loop-holds Inv-loop μ-loop
-loop-holds c = (search needs, refl, sym (patch-none 0 _ _))
-
-side-requires : tie.Need-side-requires Inv-loop μ-loop
-side-requires c κs = search needs
-
-length-requires : tie.Need-length-requires Inv-loop μ-loop
-length-requires c κs = search needs
+counts : (s : tie.Start Inv-loop μ-loop) → Sides (s .args .q) (s .args .q)
+counts s = sides (s .args .q) (s .args .q) (s .pre .size) refl
 
 array-write-ks : tie.Need-array-write-ks Inv-loop μ-loop
-array-write-ks c = let s = c .before .before .before .before in omega
-    (arith, bounds (s .args .q) (s .pre .0) .side, c .before .before .before .loop .inv .0, c .before .before .before .loop .inv .1, c .before .before .side .ensures, c .before .if1 .taken)
-
-add-j : tie.Need-add-j Inv-loop μ-loop
-add-j c = search needs
-
-loop-less : tie.Need-loop-less Inv-loop μ-loop
-loop-less c = search needs
+array-write-ks c =
+    let b = counts (c .before .before .before .before) in
+    let turn = c .before .before .before .loop in
+    omega (arith, b .side, turn .inv .0, turn .inv .1, c .before .before .side .ensures, c .before .if1 .taken)
 
 loop-again : tie.Need-loop-again Inv-loop μ-loop
 loop-again c =
@@ -51,7 +41,7 @@ returns c =
     let s = c .before .before .before in
     let turn = c .before .before .loop in
     let end : turn .j ≡ s .args .q = omega (arith, turn .inv .0, c .before .side .ensures, c .if1 .left) in
-    front (ringLength (s .args .q) (s .args .m)) (s .args .q) _ (rw end at (turn .inv .2)) (bounds (s .args .q) (s .pre .0) .side)
+    front (ringLength (s .args .q) (s .args .m)) (s .args .q) _ (rw end at (turn .inv .2)) (counts s .side)
 
 pub lengths-spec : {M : Type 1} → statement M
 lengths-spec =
@@ -59,11 +49,11 @@ lengths-spec =
     (tie.spec
     Inv-loop
     μ-loop
-    loop-holds
-    side-requires
-    length-requires
+    (λ c. (search needs, refl, sym (patch-none 0 _ _)))
+    (λ c κs. search needs)
+    (λ c κs. search needs)
     array-write-ks
-    add-j
-    loop-less
+    (λ c. search needs)
+    (λ c. search needs)
     loop-again
     returns)

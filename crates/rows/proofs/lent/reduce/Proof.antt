@@ -21,18 +21,20 @@ abbrev reading : tie.After-multiply-sixteens-arg2 Inv-loop μ-loop → tie.In-lo
 reading c = c .before .before .before
 
 given : (c : tie.Start Inv-loop μ-loop)
-    → Sharing (c .args .degree) (c .args .points .now) (c .args .k) (c .args .ws .now) (c .args .s .now)
-given c =
-    let p = c .pre in
-    record { degree = p .0 .0; points = p .0 .2; rounds = p .1 .0 .0; few = p .1 .0 .1; room = p .1 .0 .2; inverses = p .1 .1 .1 }
-
-loop-holds : tie.Need-loop-holds Inv-loop μ-loop
-loop-holds c = (omega arith, none-shared _ _ _ (c .before .before .before .pre .1 .1 .0))
+    → Sharing (c .args .degree) (c .args .table .now) (c .args .points .now) (c .args .k) (c .args .ws .now) (c .args .s .now)
+given c = let ((degree, table, points), ((rounds, few, room), (symbols, inverses))) = c .pre in record {
+  lent = record { degree = degree; table = table };
+  points = points;
+  rounds = rounds;
+  few = few;
+  room = room;
+  symbols = symbols;
+  inverses = inverses;
+}
 
 multiply-sixteens-requires : tie.Need-multiply-sixteens-requires Inv-loop μ-loop
-multiply-sixteens-requires c κs =
-    let here = reading c in
-    (start here .pre .0 .1, next-shared (given (start here)) (here .before .loop .inv .1) (here .loop-test .taken))
+multiply-sixteens-requires c κs = let here = reading c in
+    (given (start here) .lent .table, next-shared (given (start here)) (here .before .loop .inv .1) (here .loop-test .taken))
 
 loop-again : tie.Need-loop-again Inv-loop μ-loop
 loop-again c =
@@ -42,13 +44,18 @@ loop-again c =
     )
 
 returns : tie.Need-returns Inv-loop μ-loop
-returns c =
-    let whole : c .before .loop .j ≡ c .before .before .before .before .before .args .k = omega (arith, c .loop-test .left) in
-    rw (← whole) (c .before .loop .inv .1 .row)
+returns c = let turn = c .before in
+    let whole : turn .loop .j ≡ turn .before .before .before .before .args .k = omega (arith, c .loop-test .left) in
+    rw (← whole) (turn .loop .inv .1 .row)
 
 pub reduce-spec : {M : Type 1} → statement M
 reduce-spec =
-    tie.close (tie.spec Inv-loop μ-loop loop-holds (λ c. search needs) (λ c. search needs) (λ c. search needs)
+    tie.close (tie.spec Inv-loop μ-loop
+    (λ c. (omega arith, none-shared _ _ _ (given (c .before .before .before) .symbols)))
+    (λ c. search needs) (λ c. search needs) (λ c. search needs) (λ c. search needs) (λ c. search needs) (λ c. search needs)
     (λ c. search needs) (λ c. search needs) (λ c. search needs) (λ c. search needs) (λ c. search needs)
-    (λ c. search needs) (λ c. search needs) (λ c. search needs) multiply-sixteens-requires (λ c. search needs)
-    (λ c. search needs) loop-again (λ c. search needs) returns)
+    multiply-sixteens-requires
+    (λ c. search needs) (λ c. search needs)
+    loop-again
+    (λ c. search needs)
+    returns)

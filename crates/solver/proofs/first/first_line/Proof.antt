@@ -21,9 +21,9 @@ returns : tie.Need-returns
 returns c =
     let written = c .before .before in
     let stored = written .before .before .before .before in
-    let cleared = stored .before .before .before .before in
-    let pre = cleared .before .before .before .before .pre in
-    first-only _ _ (pre .0) (pre .1) (cleared .clear .ensures) (stored .store .ensures) (written .ones .ensures)
+    let zeroLine = stored .before .before .before .before in
+    let pre = zeroLine .before .before .before .before .pre in
+    first-only _ _ (pre .0) (pre .1) (zeroLine .clear .ensures) (stored .store .ensures) (written .ones .ensures)
 
 pub first-line-spec : {M : Type 1} → statement M
 first-line-spec =

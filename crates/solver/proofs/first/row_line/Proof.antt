@@ -26,9 +26,9 @@ same-length c = search needs
 returns : tie.Need-returns
 returns c =
     let written = c .before .before in
-    let cleared = written .before .before .before .before in
-    let pre = cleared .before .before .before .pre in
-    row-only _ _ (pre .1) _ _ (pre .0) (cleared .clear .ensures) (written .ones .ensures)
+    let zeroLine = written .before .before .before .before in
+    let pre = zeroLine .before .before .before .pre in
+    row-only _ _ (pre .1) _ _ (pre .0) (zeroLine .clear .ensures) (written .ones .ensures)
 
 pub row-line-spec : {M : Type 1} → statement M
 row-line-spec =

@@ -4,16 +4,16 @@ use mathlib.Core.Path.{_≡_, refl}
 use Prim.Native.Nat.{_+_, _-_, _≤_}
 use native.Mathlib.Omega.{arith}
 use lib.ListN.{length, take, getD}
-use Rattle.solver.specs.Start.{total, rowLine}
+use Rattle.solver.specs.Working.Start.{allCounts, rowLine}
 use Rattle.solver.proofs.Slots.{Begun}
-use Rattle.solver.proofs.Marked.{total-next, total-within}
+use Rattle.solver.proofs.Marked.{all-counts-next, all-counts-within}
 use Rattle.solver.proofs.Starting.{rows-none, rows-more}
 use borrow.Author.Needs.{needs}
 use Rattle.solver.proofs.first.row_lines.Statement.{statement}
 use Rattle.solver.proofs.first.row_lines.Tie as tie
 
 abbrev Inv-loop : tie.InvT-loop
-Inv-loop counts space₀ j₀ at₀ space j at = (j ≤ length counts) × (at ≡ total (take j counts)) × Begun (j + 1) (rowLine counts) space₀ space
+Inv-loop counts space₀ j₀ at₀ space j at = (j ≤ length counts) × (at ≡ allCounts (take j counts)) × Begun (j + 1) (rowLine counts) space₀ space
 
 abbrev μ-loop : tie.MeasureT-loop
 μ-loop counts space₀ j₀ at₀ space j at = length counts - j
@@ -35,7 +35,7 @@ row-line-requires c κs =
     let turn = c .before .before .before in
     let start = turn .before .before .before in
     let below = c .before .before .loop-test .taken in (
-      rw (turn .loop .inv .1) (omega (arith, total-within (start .args .counts .now) (turn .loop .j) below, start .pre)),
+      rw (turn .loop .inv .1) (omega (arith, all-counts-within (start .args .counts .now) (turn .loop .j) below, start .pre)),
       omega (arith, below, start .pre, turn .loop .inv .2 .begun .long),
     )
 
@@ -51,7 +51,7 @@ add-at c =
     let start = turn .before .before .before in
     let counts = start .args .counts .now in
     let within : turn .loop .at + getD counts (turn .loop .j) 0 ≤ 768 =
-    rw (turn .loop .inv .1) (omega (arith, total-within counts (turn .loop .j) (c .before .before .before .before .before .before .loop-test .taken), start .pre)) in
+    rw (turn .loop .inv .1) (omega (arith, all-counts-within counts (turn .loop .j) (c .before .before .before .before .before .before .loop-test .taken), start .pre)) in
     omega arith
 
 add-j : tie.Need-add-j Inv-loop μ-loop
@@ -64,7 +64,7 @@ loop-again : tie.Need-loop-again Inv-loop μ-loop
 loop-again c =
     let inv = c .before .before .before .before .before .before .before .loop .inv in
     let below = c .before .before .before .before .before .before .loop-test .taken in
-    (omega (arith, below), rw (inv .1) (total-next _ _ below), rows-more _ _ _ _ (inv .1) (inv .2) (c .before .before .before .row-line .ensures))
+    (omega (arith, below), rw (inv .1) (all-counts-next _ _ below), rows-more _ _ _ _ (inv .1) (inv .2) (c .before .before .before .row-line .ensures))
 
 same-length : tie.Need-same-length Inv-loop μ-loop
 same-length c = search needs

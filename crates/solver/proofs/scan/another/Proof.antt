@@ -1,6 +1,6 @@
 -- `solver::scan::another` scans lines of which those with another lead are marked.
 -- Assumes nothing.
-use Rattle.solver.specs.Scan.{Marks}
+use Rattle.solver.specs.Working.Scan.{Marks}
 use mathlib.Core.List.{List, [], _∷_}
 use Prim.Native.Nat.{ℕ, _<_}
 use native.Mathlib.Omega.{arith}

@@ -3,7 +3,7 @@
 use mathlib.Core.Path.{_≡_, _∙_, sym}
 use Prim.Native.Nat.{_-_, _≤_}
 use native.Mathlib.Omega.{arith}
-use Rattle.solver.specs.Scan.{firstLowest}
+use Rattle.solver.specs.Working.Scan.{firstLowest}
 use Rattle.solver.proofs.Scanned.{rest, rest-all, rest-turn, rest-none}
 use borrow.Author.Needs.{needs}
 use Rattle.solver.proofs.scan.pivot.Statement.{statement}

@@ -4,7 +4,7 @@ use mathlib.Core.Path.{_≡_}
 use native.Mathlib.Nat.{zero-add}
 use Prim.Native.Nat.{_-_, _≤_, _<_}
 use native.Mathlib.Omega.{arith}
-use Rattle.solver.specs.Turns.{mixed}
+use Rattle.solver.specs.Working.Turns.{mixed}
 use Rattle.solver.proofs.Slots.{Begun, begun-none, begun-more}
 use borrow.Author.Needs.{needs}
 use Rattle.solver.proofs.turns.mix_lines.Statement.{statement}

@@ -6,7 +6,7 @@ use native.Mathlib.Omega.{arith}
 use lib.ListN.{length}
 use lib.Seq.{length-take-le}
 use Rattle.patch.proofs.Parts.{length-part}
-use Rattle.solver.specs.Slots.{slots}
+use Rattle.solver.specs.Working.Slots.{slots}
 use Rattle.solver.proofs.Slots.{slots-length}
 use Rattle.solver.proofs.Mixing.{each-mixed}
 use borrow.Author.Needs.{needs}

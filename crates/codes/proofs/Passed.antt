@@ -1,0 +1,198 @@
+-- What no refusal leaves true.
+--
+--   total-most, largest-most    lengths up to n: their sum is at most n for each, and the largest at most n
+--   up-to-largest         no length is above the largest
+--   Counts c              what checks 1 to 4 leave; counted, from them and whatever checks follow; counts-of, from them alone
+--   PassedEncoding, PassedReading, PassedDecoding    what the checks of a call leave; encoding, reading, decoding, from them
+--   PassedArray           what 1 to 7 of decoding leave; arrays, from them; counts-of-array, of those what 1 to 4 leave
+-- Assumes nothing.
+use mathlib.Core.Path.{_≡_, refl, sym, ap, ap₂, _∙_}
+use mathlib.Core.Bool.{Bool, true, false, not}
+use mathlib.Core.List.{List, [], _∷_, _++_}
+use Prim.Native.Nat.{ℕ, zero, suc, _*_, _≤_, _<_}
+use native.Mathlib.Nat.{suc-mul, mul-le-mul}
+use native.Mathlib.Omega.{arith}
+use lib.Dec.{eqb, ltb}
+use lib.ListN.{length, getD, replicate, length-replicate}
+use borrow.Author.Tests.{eq-eqb, eqb-true, ltb-false, not-false}
+use Rattle.refusal.specs.Refusal.{Check, _when_, first, badDegree, badPoints, someOutsideField}
+use Rattle.refusal.proofs.Laws.{within}
+use Rattle.refusal.proofs.Ladders.{clear}
+use Rattle.field.proofs.Instance.{field}
+use Rattle.codes.specs.Code.{Code, columns, rows, total, largest, IsMessage, IsArray, jointLimit}
+use Rattle.codes.specs.Checks.{codeChecks, wrongLength, spaceBytes, encodeChecks, readChecks, arrayChecks, decodeChecks}
+use Rattle.codes.proofs.Proper.{Within, Proper, neither, lengths-test, proper, array, message}
+
+pub total-most : (n : ℕ) (ks : List ℕ) → Within 1 n ks → total ks ≤ length ks * n
+unfolding total
+total-most n [] h = omega arith
+total-most n (k ∷ ks) h = omega (arith, suc-mul (length ks) n, h .0 .1, total-most n ks (h .1))
+
+pub largest-most : (n : ℕ) (ks : List ℕ) → Within 1 n ks → largest ks ≤ n
+unfolding largest
+largest-most n [] h = omega arith
+largest-most n (k ∷ ks) h = omega (arith, h .0 .1, largest-most n ks (h .1))
+
+pub up-to-largest : (ks : List ℕ) (l : ℕ) → l < length ks → getD ks l 0 ≤ largest ks
+unfolding largest
+up-to-largest [] l h = absurd (omega arith)
+up-to-largest (k ∷ ks) zero h = omega arith
+up-to-largest (k ∷ ks) (suc l) h = omega (arith, up-to-largest ks l (omega arith))
+
+pub record Counts (c : Code) : Type 0 where
+  pub degree : badDegree (c .degree) ≡ false
+  pub some-rows : 1 ≤ rows c
+  pub most-rows : rows c ≤ 4
+  pub some-columns : 1 ≤ columns c
+  pub most-columns : columns c ≤ 96
+  pub lengths : Within 1 (columns c) (c .lengths)
+  pub fits : total (c .lengths) ≤ rows c * columns c
+  pub cells : rows c * columns c ≤ 384
+
+pub counted : (c : Code) (ds : List Check) → 0 ≡ first (codeChecks c ++ ds) → Counts c × (0 ≡ first ds)
+counted c ds e =
+    let p₁ = clear 0 _ _ e in
+    let p₂ = clear 1 _ _ (p₁ .1) in
+    let p₃ = clear 2 _ _ (p₂ .1) in
+    let p₄ = clear 3 _ _ (p₃ .1) in
+    let r = within 1 4 (rows c) (p₂ .0) in
+    let n = within 1 96 (columns c) (p₃ .0) in
+    let k = lengths-test 1 (columns c) (c .lengths) .0 (p₄ .0) in (
+      record {
+        degree = p₁ .0;
+        some-rows = r .0;
+        most-rows = r .1;
+        some-columns = n .0;
+        most-columns = n .1;
+        lengths = k;
+        fits = total-most (columns c) (c .lengths) k;
+        cells = mul-le-mul (r .1) (n .1);
+      },
+      p₄ .1,
+    )
+
+pub counts-of : (c : Code) {k : ℕ} → k ≡ first (codeChecks c) → k ≡ 0 → Counts c
+counts-of c e z = counted c [] (sym z ∙ e) .0
+
+-- what the calls have in common: b is the test of the lengths of buffers, s the symbols that are input
+record Common (c : Code) (b : Bool) (s : List ℕ) (ds : List Check) : Type 0 where
+  counts : Counts c
+  proper : Proper c
+  buffers : b ≡ false
+  symbols : someOutsideField (c .degree) s ≡ false
+  rest : 0 ≡ first ds
+
+common : (c : Code) (b : Bool) (s : List ℕ) (ds : List Check)
+    → 0 ≡ first (codeChecks c ++ (5 when b) ∷ (6 when badPoints (c .degree) (c .points)) ∷ (7 when someOutsideField (c .degree) s) ∷ ds)
+    → Common c b s ds
+common c b s ds e =
+    let p = counted c _ e in
+    let p₅ = clear 4 _ _ (p .1) in
+    let p₆ = clear 5 _ _ (p₅ .1) in
+    let p₇ = clear 6 _ _ (p₆ .1) in
+    record {
+      counts = p .0;
+      proper = proper c (field (c .degree) (p .0 .degree)) (lengths-test 1 (columns c) (c .lengths) .1 (p .0 .lengths)) (p₆ .0);
+      buffers = p₅ .0;
+      symbols = p₇ .0;
+      rest = p₇ .1;
+    }
+
+pub right-length : (n : ℕ) (l : List ℕ) → wrongLength n l ≡ false → length l ≡ n
+right-length n l e = eqb-true (length l) n (not-false _ e)
+
+pub is-right : (n : ℕ) (l : List ℕ) → length l ≡ n → wrongLength n l ≡ false
+is-right n l e = ap not (eq-eqb (length l) n e)
+
+pub record PassedEncoding (c : Code) (m a : List ℕ) : Type 0 where
+  pub counts : Counts c
+  pub proper : Proper c
+  pub message : IsMessage c m
+  pub array : length a ≡ rows c * columns c
+
+pub encoding : (c : Code) (m a : List ℕ) → 0 ≡ first (encodeChecks c m a) → PassedEncoding c m a
+encoding c m a e =
+    let p = common c _ m [] e in
+    let l = neither (wrongLength (total (c .lengths)) m) (wrongLength (rows c * columns c) a) .0 (p .buffers) in
+    record {
+      counts = p .counts;
+      proper = p .proper;
+      message = message c m (right-length _ m (l .0)) (p .symbols);
+      array = right-length _ a (l .1);
+    }
+
+pub record PassedReading (c : Code) (a m : List ℕ) : Type 0 where
+  pub counts : Counts c
+  pub proper : Proper c
+  pub array : IsArray c a
+  pub message : length m ≡ total (c .lengths)
+
+pub reading : (c : Code) (a m : List ℕ) → 0 ≡ first (readChecks c a m) → PassedReading c a m
+reading c a m e =
+    let p = common c _ a [] e in
+    let l = neither (wrongLength (total (c .lengths)) m) (wrongLength (rows c * columns c) a) .0 (p .buffers) in
+    record {
+      counts = p .counts;
+      proper = p .proper;
+      array = array c a (right-length _ a (l .1)) (p .symbols);
+      message = right-length _ m (l .0);
+    }
+
+-- what 1 to 7 of decoding leave
+pub record PassedArray (c : Code) (y a f w : List ℕ) : Type 0 where
+  pub counts : Counts c
+  pub proper : Proper c
+  pub received : IsArray c y
+  pub answer : length a ≡ rows c * columns c
+  pub flags : length f ≡ columns c
+  pub space : spaceBytes ≤ length w
+
+pub arrays : (c : Code) (y a f w : List ℕ) (ds : List Check) → 0 ≡ first (arrayChecks c y a f w ++ ds)
+    → PassedArray c y a f w × (0 ≡ first ds)
+arrays c y a f w ds e =
+    let p = common c _ y ds e in
+    let l₃ = neither _ (ltb (length w) spaceBytes) .0 (p .buffers) in
+    let l₂ = neither _ (wrongLength (columns c) f) .0 (l₃ .0) in
+    let l₁ = neither (wrongLength (rows c * columns c) y) (wrongLength (rows c * columns c) a) .0 (l₂ .0) in (
+      record {
+        counts = p .counts;
+        proper = p .proper;
+        received = array c y (right-length _ y (l₁ .0)) (p .symbols);
+        answer = right-length _ a (l₁ .1);
+        flags = right-length _ f (l₂ .1);
+        space = ltb-false (length w) spaceBytes (l₃ .1);
+      },
+      p .rest,
+    )
+
+-- from the number that a function of the buffers' lengths answers
+pub counts-of-array : (c : Code) (y : List ℕ) {k n m s : ℕ}
+    → ((a f w : List ℕ) → length a ≡ n → length f ≡ m → length w ≡ s → k ≡ first (arrayChecks c y a f w)) → k ≡ 0 → Counts c
+counts-of-array c y {k} {n} {m} {s} e z = counted c _
+    (sym z ∙ e (replicate n 0) (replicate m 0) (replicate s 0) (length-replicate n 0) (length-replicate m 0) (length-replicate s 0)) .0
+
+pub record PassedDecoding (c : Code) (τ : ℕ) (y a f w : List ℕ) : Type 0 where
+  pub counts : Counts c
+  pub proper : Proper c
+  pub received : IsArray c y
+  pub answer : length a ≡ rows c * columns c
+  pub flags : length f ≡ columns c
+  pub space : spaceBytes ≤ length w
+  pub limit : τ ≤ jointLimit c
+
+pub decoding : (c : Code) (τ : ℕ) (y a f w : List ℕ) → 0 ≡ first (decodeChecks c τ y a f w) → PassedDecoding c τ y a f w
+decoding c τ y a f w e =
+    let p = arrays c y a f w _ e in
+    record {
+      counts = p .0 .counts;
+      proper = p .0 .proper;
+      received = p .0 .received;
+      answer = p .0 .answer;
+      flags = p .0 .flags;
+      space = p .0 .space;
+      limit = ltb-false (jointLimit c) τ (clear 7 _ _ (p .1) .0);
+    }
+
+-- a test of a length, where the code has the length and the right one as numbers
+pub as-tested : {x n n′ : ℕ} (l : List ℕ) → length l ≡ x → n′ ≡ n → wrongLength n l ≡ not (eqb x n′)
+as-tested l p e = ap₂ (λ (a b : ℕ). not (eqb a b)) p (sym e)

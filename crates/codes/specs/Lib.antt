@@ -1,0 +1,4 @@
+pub mod Code
+pub mod Lost
+pub mod Checks
+pub mod Near

@@ -1,0 +1,1 @@
+// Codes, their arrays and limits, lost columns, and the checks of the calls on arrays: definitions and lemmas, no functions.

@@ -1,0 +1,180 @@
+-- What the checks of a call leave true, and that the code of the ring's array passes its own.
+--
+--   ring-passed      what 10 and 11 leave, and the checks that follow
+--   PassedEncoding, PassedReading, PassedWord, PassedLost    what the checks of a call leave, of decoding 10, 11, 5 and 7, and all
+--                    checks with lost sectors; encoding, reading, words, losing, from them
+--   reads-on         a ring passes the checks of reading
+--   to-encode, to-read, to-array, to-lose    then no check of the call on the array applies
+-- Assumes nothing.
+use mathlib.Core.Path.{_≡_, refl, sym, _∙_}
+use mathlib.Core.Bool.{false}
+use mathlib.Core.List.{List, _++_}
+use Prim.Native.Nat.{ℕ, _*_, _≤_}
+use lib.Dec.{ltb}
+use lib.ListN.{length}
+use borrow.Author.Tests.{ltb-false, le-ltb}
+use Rattle.refusal.specs.Refusal.{Check, first, outside, someOutsideField}
+use Rattle.refusal.proofs.Ladders.{miss, clear}
+use Rattle.field.specs.Symbols.{IsSymbol}
+use Rattle.poly.specs.Poly.{All}
+use Rattle.codes.specs.Code.{Code, rows, columns, total, IsMessage}
+use Rattle.codes.specs.Checks.{codeChecks, wrongLength, spaceBytes, remainingChecks}
+use Rattle.codes.specs.Checks as Mark
+use Rattle.codes.proofs.Proper.{neither, symbols-test, lengths-test, message}
+use Rattle.codes.proofs.Passed.{right-length, is-right, Counts}
+use Rattle.codes.proofs.Lost.{Remains, remains}
+use Rattle.hermitian.specs.Ring.{ringLengths, ringCode, IsRing}
+use Rattle.hermitian.specs.Checks.{badSize, badOrder, ringChecks, bufferChecks, encodeChecks, readChecks, wordChecks, lostChecks}
+use Rattle.hermitian.proofs.Numbers.{length-numbers}
+use Rattle.hermitian.proofs.Sizes.{tested, ring-cells, ring-counts}
+
+pub record Passed (q m : ℕ) : Type 0 where
+  pub size : badSize q ≡ false
+  pub order : badOrder q m ≡ false
+
+pub ring-passed : (q m : ℕ) (ds : List Check) → 0 ≡ first (ringChecks q m ++ ds) → Passed q m × (0 ≡ first ds)
+ring-passed q m ds e =
+    let p = clear 9 _ _ e in
+    let o = clear 10 _ _ (p .1) in
+    (record { size = p .0; order = o .0 }, o .1)
+
+-- what 10, 11, 5 and 7 leave of a message and a word, of which the symbols s are the input
+buffers : (q m : ℕ) (f w s : List ℕ) → 0 ≡ first (ringChecks q m ++ bufferChecks q m f w s)
+    → Passed q m × (length f ≡ total (ringLengths q m)) × (length w ≡ q * q * q) × (someOutsideField q s ≡ false)
+buffers q m f w s e =
+    let p = ring-passed q m _ e in
+    let p₅ = clear 4 _ _ (p .1) in
+    let l = neither (wrongLength (total (ringLengths q m)) f) (wrongLength (q * q * q) w) .0 (p₅ .0) in
+    (p .0, right-length _ f (l .0), right-length _ w (l .1), clear 6 _ _ (p₅ .1) .0)
+
+pub record PassedEncoding (q m : ℕ) (f w : List ℕ) : Type 0 where
+  pub ring : Passed q m
+  pub message : IsMessage (ringCode q m) f
+  pub word : length w ≡ q * q * q
+
+pub encoding : (q m : ℕ) (f w : List ℕ) → 0 ≡ first (encodeChecks q m f w) → PassedEncoding q m f w
+encoding q m f w e =
+    let (ring, message-length, word, symbols) = buffers q m f w f e in
+    record { ring = ring; message = message (ringCode q m) f message-length symbols; word = word }
+
+pub record PassedReading (q m : ℕ) (w f : List ℕ) : Type 0 where
+  pub ring : Passed q m
+  pub word : IsRing q w
+  pub message : length f ≡ total (ringLengths q m)
+
+pub reading : (q m : ℕ) (w f : List ℕ) → 0 ≡ first (readChecks q m w f) → PassedReading q m w f
+reading q m w f e =
+    let (ring, message, word, symbols) = buffers q m f w w e in
+    record { ring = ring; word = record { count = word; symbols = symbols-test q w .0 symbols }; message = message }
+
+-- what 10, 11, 5 and 7 of decoding leave
+pub record PassedWord (q m : ℕ) (y w f s : List ℕ) : Type 0 where
+  pub ring : Passed q m
+  pub received : IsRing q y
+  pub answer : length w ≡ q * q * q
+  pub flags : length f ≡ q * q
+  pub space : spaceBytes ≤ length s
+
+pub words : (q m : ℕ) (y w f s : List ℕ) (ds : List Check) → 0 ≡ first (wordChecks q m y w f s ++ ds)
+    → PassedWord q m y w f s × (0 ≡ first ds)
+words q m y w f s ds e =
+    let p = ring-passed q m _ e in
+    let p₅ = clear 4 _ _ (p .1) in
+    let p₇ = clear 6 _ _ (p₅ .1) in
+    let l₃ = neither _ (ltb (length s) spaceBytes) .0 (p₅ .0) in
+    let l₂ = neither _ (wrongLength (q * q) f) .0 (l₃ .0) in
+    let l₁ = neither (wrongLength (q * q * q) y) (wrongLength (q * q * q) w) .0 (l₂ .0) in (
+      record {
+        ring = p .0;
+        received = record { count = right-length _ y (l₁ .0); symbols = symbols-test q y .0 (p₇ .0) };
+        answer = right-length _ w (l₁ .1);
+        flags = right-length _ f (l₂ .1);
+        space = ltb-false (length s) spaceBytes (l₃ .1);
+      },
+      p₇ .1,
+    )
+
+pub record PassedLost (q m τ : ℕ) (L y w f s : List ℕ) : Type 0 where
+  pub word : PassedWord q m y w f s
+  pub rest : 0 ≡ first (remainingChecks (ringCode q m) τ L)
+  pub remain : Remains (ringCode q m) τ L
+
+pub losing : (q m τ : ℕ) (L y w f s : List ℕ) → 0 ≡ first (lostChecks q m τ L y w f s) → PassedLost q m τ L y w f s
+losing q m τ L y w f s e =
+    let p = words q m y w f s _ e in
+    record {
+      word = p .0;
+      rest = p .1;
+      remain = remains (ringCode q m) τ L (ring-counts q m (p .0 .ring .size) (p .0 .ring .order) .some-columns) (p .1);
+    }
+
+-- a ring passes the checks of reading, with a buffer of the right length
+pub reads-on : {q m : ℕ} → Passed q m → (f w : List ℕ) → IsRing q w → length f ≡ total (ringLengths q m) → first (readChecks q m w f) ≡ 0
+reads-on {q} {m} p f w h l =
+    miss 10 _ _ (p .size)
+    ∙ miss 11 _ _ (p .order)
+    ∙ miss 5 _ _ (neither (wrongLength (total (ringLengths q m)) f) (wrongLength (q * q * q) w) .1
+    (is-right _ f l, is-right _ w (h .count)))
+    ∙ miss 7 _ _ (symbols-test q w .1 (h .symbols))
+    ∙ unfold first in refl
+
+-- ---- the checks of the call on the array
+
+inside : (lo hi n : ℕ) → lo ≤ n → n ≤ hi → outside lo hi n ≡ false
+unfolding outside
+inside lo hi n l h = neither _ _ .1 (le-ltb n lo l, le-ltb hi n h)
+
+-- the checks 1 to 4 of a code whose counts are within the limits do not apply
+counted : (c : Code) (ds : List Check) → Counts c → first (codeChecks c ++ ds) ≡ first ds
+counted c ds h =
+    miss 1 _ _ (h .degree)
+    ∙ miss 2 _ _ (inside 1 4 (rows c) (h .some-rows) (h .most-rows))
+    ∙ miss 3 _ _ (inside 1 96 (columns c) (h .some-columns) (h .most-columns))
+    ∙ miss 4 _ _ (lengths-test 1 (columns c) (c .lengths) .1 (h .lengths))
+
+module _ {q m : ℕ} (p : Passed q m) where
+  onward : (ds : List Check) → first (codeChecks (ringCode q m) ++ ds) ≡ first ds
+  onward ds = counted (ringCode q m) ds (ring-counts q m (p .size) (p .order))
+
+  right-cells : (a : List ℕ) → length a ≡ q * q * q → wrongLength (rows (ringCode q m) * columns (ringCode q m)) a ≡ false
+  right-cells a e = is-right _ a (e ∙ sym (ring-cells q m))
+
+  right-columns : (f : List ℕ) → length f ≡ q * q → wrongLength (columns (ringCode q m)) f ≡ false
+  right-columns f e = is-right _ f (e ∙ sym (length-numbers (q * q)))
+
+  -- a message and an array of the right lengths, the symbols s being the input
+  buffers-pass : (f a s : List ℕ) → length f ≡ total (ringLengths q m) → length a ≡ q * q * q → All (IsSymbol q) s
+      → first (codeChecks (ringCode q m) ++ Mark.bufferChecks (ringCode q m) f a s) ≡ 0
+  buffers-pass f a s l k i =
+      onward (Mark.bufferChecks (ringCode q m) f a s)
+      ∙ miss 5 _ _ (neither (wrongLength (total (ringLengths q m)) f) _ .1 (is-right _ f l, right-cells a k))
+      ∙ miss 6 _ _ (tested q (p .size) .points)
+      ∙ miss 7 _ _ (symbols-test q s .1 i)
+      ∙ unfold first in refl
+
+pub to-encode : {q m : ℕ} {f w : List ℕ} → PassedEncoding q m f w → (a : List ℕ) → length a ≡ q * q * q
+    → first (Mark.encodeChecks (ringCode q m) f a) ≡ 0
+to-encode {f = f} p a k = buffers-pass (p .ring) f a f (p .message .count) k (p .message .symbols)
+
+pub to-read : {q m : ℕ} {w f : List ℕ} → PassedReading q m w f → (a : List ℕ) → IsRing q a
+    → first (Mark.readChecks (ringCode q m) a f) ≡ 0
+to-read {f = f} p a h = buffers-pass (p .ring) f a a (p .message) (h .count) (h .symbols)
+
+-- 1 to 7 of decoding the array do not apply
+pub to-array : {q m : ℕ} → Passed q m → (a b f s : List ℕ) → IsRing q a → length b ≡ q * q * q → length f ≡ q * q → spaceBytes ≤ length s
+    → (ds : List Check) → first (Mark.arrayChecks (ringCode q m) a b f s ++ ds) ≡ first ds
+to-array {q} {m} p a b f s h k l z ds =
+    onward p _
+    ∙ miss 5 _ _ (neither _ (ltb (length s) spaceBytes) .1 (
+      neither _ (wrongLength (columns (ringCode q m)) f) .1 (
+        neither (wrongLength (rows (ringCode q m) * columns (ringCode q m)) a) _ .1 (right-cells p a (h .count), right-cells p b k),
+        right-columns p f l,
+      ),
+      le-ltb (length s) spaceBytes z,
+    ))
+    ∙ miss 6 _ _ (tested q (p .size) .points)
+    ∙ miss 7 _ _ (symbols-test q a .1 (h .symbols))
+
+pub to-lose : {q m τ : ℕ} {L y w f s : List ℕ} → PassedLost q m τ L y w f s → (a b : List ℕ) → IsRing q a → length b ≡ q * q * q
+    → first (Mark.lostChecks (ringCode q m) τ L a b f s) ≡ 0
+to-lose {f = f} {s = s} p a b h k = to-array (p .word .ring) a b f s h k (p .word .flags) (p .word .space) _ ∙ sym (p .rest)

@@ -1,0 +1,3 @@
+-- What inner contracts cite, and no promise.
+pub mod Combining
+pub mod Lists

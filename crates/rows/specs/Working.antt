@@ -1,0 +1,2 @@
+-- What inner contracts cite, and no promise.
+pub mod Rows
