@@ -7,7 +7,8 @@
  * A code is a field GF(2^degree), columns distinct points (one a column), and rows message lengths k (one a row), each from 1 to
  * the number of columns. K is the sum of the lengths. A message is K coefficients, lowest first, row after row. An array is
  * rows · columns symbols, row after row; a code array's row l holds the values at the points of a polynomial with at most k_l
- * coefficients. A symbol is one byte below 2^degree.
+ * coefficients. A symbol is one byte below 2^degree, bit i standing for x^i: sums are exclusive or, and products are reduced by
+ * x^2+x+1 (degree 2), x^4+x+1 (degree 4) and x^8+x^5+x^3+x^2+1 (degree 8, the field of ISO/IEC 16022).
  *
  * A ring over GF(q²), q = 2 or 4, is q³ symbols in the order of its points, q a sector, q² sectors; H(m) has the q message lengths
  * (m − j(q+1))/q rounded down, plus 1.

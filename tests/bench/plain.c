@@ -9,7 +9,7 @@ static unsigned order;
 
 void plain_field(unsigned degree)
 {
-    unsigned modulus = degree == 2 ? 0x7 : degree == 4 ? 0x13 : 0x11D, c = 1;
+    unsigned modulus = degree == 2 ? 0x7 : degree == 4 ? 0x13 : 0x12D, c = 1;
     order = (1u << degree) - 1;
     for (unsigned i = 0; i < order; i++) {
         powers[i] = powers[i + order] = (uint8_t)c;

@@ -9,7 +9,7 @@ enum { MOST = 400 };
 
 static unsigned modulus(unsigned degree)
 {
-    return degree == 2 ? 0x7 : degree == 4 ? 0x13 : 0x11D;
+    return degree == 2 ? 0x7 : degree == 4 ? 0x13 : 0x12D;
 }
 
 static unsigned multiply(unsigned degree, unsigned a, unsigned b)

@@ -19,9 +19,9 @@ IsSymbol d a = a < 2 ^ d
 unfoldable pub plus : ℕ → ℕ → ℕ
 plus a b = bitXor a b
 
--- 'degree 2: x^2+x+1; 4: x^4+x+1; 8: x^8+x^4+x^3+x^2+1'
+-- 'degree 2: x^2+x+1; 4: x^4+x+1'; 02, 2026-04: 'the field of the Data Matrix standard, ISO/IEC 16022: x^8+x^5+x^3+x^2+1'
 unfoldable pub modulus : ℕ → ℕ
-modulus d = cond (eqb d 2) 0b111 (cond (eqb d 4) 0b10011 0b100011101)
+modulus d = cond (eqb d 2) 0b111 (cond (eqb d 4) 0b10011 0b100101101)
 
 -- x times c: the bits move up, and where x^d appears the polynomial is taken off
 unfoldable pub timesX : ℕ → ℕ → ℕ

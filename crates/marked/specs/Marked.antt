@@ -84,8 +84,8 @@ calls =
     ∷ product 4 5 6 13
     ∷ product 4 9 10 5
     ∷ product 4 2 9 1
-    -- 'P2: GF(256), 128·2=29.'
-    ∷ product 8 128 2 29
+    -- 02, 2026-04: 'In P2, 128·2 becomes 45.' It is of GF(256).
+    ∷ product 8 128 2 45
     -- 'P3: points 1 2 4 8 3, k=3, message 2 3 1 encodes to 0 0 13 5 2.'
     ∷ encoding (gf16 (1 ∷ 2 ∷ 4 ∷ 8 ∷ 3 ∷ []) (3 ∷ [])) (2 ∷ 3 ∷ 1 ∷ []) (0 ∷ 0 ∷ 13 ∷ 5 ∷ 2 ∷ [])
     -- 'P4 to P6: the three records above; the first answers rows 5 5 5 5 and 9 9 9 9.'
