@@ -17,7 +17,7 @@ use lib.ListN.{length, getD, take, drop, length-append, length-drop, length-map}
 use lib.Seq.{drop-drop, ext-getD, length-take-le}
 use Rattle.patch.specs.Patch.{patch}
 use Rattle.patch.specs.Parts.{lay}
-use Rattle.patch.proofs.Laws.{length-patch, front-at}
+use Rattle.patch.proofs.Laws.{length-patch, getD-patch-front}
 use Rattle.patch.proofs.Parts.{lay-behind}
 use Rattle.field.specs.Symbols.{IsSymbol}
 use Rattle.field.specs.Arithmetic.{gf}
@@ -85,7 +85,7 @@ counts-front xs ks l {s} is fits =
     let long : length s ≡ length l = ap length is ∙ length-patch 0 (λ j. length xs - getD ks j 0) l (length ks) in
     let size : length (take (length ks) s) ≡ length ks = length-take-le (length ks) s (omega arith) in
     ext-getD 0 (take (length ks) s) _ (size ∙ sym (length-map ks (λ (k : ℕ). length xs - k)))
-    (λ i h. front-at (length ks) (λ j. length xs - getD ks j 0) l is fits i 0 (omega arith) ∙ sym (map-at ks i (omega arith)))
+    (λ i h. getD-patch-front (length ks) (λ j. length xs - getD ks j 0) l is fits i 0 (omega arith) ∙ sym (map-at ks i (omega arith)))
   where
     map-at : (ks : List ℕ) (i : ℕ) → i < length ks → getD (map (λ (k : ℕ). length xs - k) ks) i 0 ≡ length xs - getD ks i 0
     map-at [] i h = absurd (omega arith)

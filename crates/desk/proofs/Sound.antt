@@ -22,7 +22,7 @@ use lib.Seq.{length-take-le}
 use lib.Pow.{pow-pos}
 use borrow.Author.Tests.{eqb-true, leb-false, not-false}
 use Rattle.patch.specs.Parts.{lay}
-use Rattle.patch.proofs.Parts.{length-lay, lay-above, laid-front}
+use Rattle.patch.proofs.Parts.{length-lay, getD-lay-above, take-lay}
 use Rattle.refusal.specs.Refusal.{first, badDegree, outside, someOutside, outsideField, someOutsideField, isIn, repeated, badPoints}
 use Rattle.refusal.proofs.Laws.{within}
 use Rattle.refusal.proofs.Ladders.{clear}
@@ -114,10 +114,10 @@ symbols-zeros d zero = tt
 symbols-zeros d (suc n) = (pow-pos d, symbols-zeros d n)
 
 front : (n : ℕ) (l : List ℕ) → length l ≤ n → take (length l) (lay 0 l (zeros n)) ≡ l
-front n l h = laid-front l (zeros n) refl refl (omega (arith, length-zeros n))
+front n l h = take-lay l (zeros n) refl refl (omega (arith, length-zeros n))
 
 zero-behind : (n : ℕ) (l : List ℕ) → ZeroFrom (length l) (lay 0 l (zeros n))
-zero-behind n l i h = lay-above 0 l (zeros n) i (omega arith) ∙ zeros-zero n i
+zero-behind n l i h = getD-lay-above 0 l (zeros n) i (omega arith) ∙ zeros-zero n i
 
 pub code-zero : (c : Code) → Openable c → deskCode (zeroDesk c) ≡ c
 code-zero c p = ap₂ (codeOf (c .degree)) (front 16 (c .points) (p .most-columns)) (front 4 (c .lengths) (p .most-rows))

@@ -12,7 +12,7 @@ use Prim.Native.Nat.{ℕ, _≤_}
 use native.Mathlib.Omega.{arith}
 use lib.ListN.{length, take}
 use Rattle.patch.specs.Parts.{lay}
-use Rattle.patch.proofs.Parts.{laid-front}
+use Rattle.patch.proofs.Parts.{take-lay}
 use Rattle.field.specs.Arithmetic.{gf}
 use Rattle.poly.specs.Poly.{value, valuesAt}
 use Rattle.poly.proofs.Values.{length-values}
@@ -41,13 +41,13 @@ module _ {c : Code} (p : Proper c) (E z f : List ℕ) {ms f′ : List ℕ} (valu
   where
     pub marks-are : take (columns c) ms ≡ valuesAt (gf (c .degree)) (c .points) E
     marks-are =
-        laid-front (valuesAt (gf (c .degree)) (c .points) E) z valued (length-values (gf (c .degree)) (p .field) (c .points) E) room
+        take-lay (valuesAt (gf (c .degree)) (c .points) E) z valued (length-values (gf (c .degree)) (p .field) (c .points) E) room
 
     pub marks-count : length (take (columns c) ms) ≡ columns c
     marks-count = ap length marks-are ∙ length-values (gf (c .degree)) (p .field) (c .points) E
 
     pub flags-zero : take (columns c) f′ ≡ zerosIn (take (columns c) ms)
-    flags-zero = laid-front (zerosIn (take (columns c) ms)) f flagged (zeros-count (take (columns c) ms) ∙ marks-count) room′
+    flags-zero = take-lay (zerosIn (take (columns c) ms)) f flagged (zeros-count (take (columns c) ms) ∙ marks-count) room′
 
     pub zeros-roots : zerosIn (take (columns c) ms) ≡ rootFlags c E
     zeros-roots = ap zerosIn marks-are ∙ roots c E
@@ -61,7 +61,7 @@ module _ {c : Code} (p : Proper c) (E z f : List ℕ) {ms f′ : List ℕ} (valu
         let flags : take (columns c) f′ ≡ rootFlags c E = flags-zero ∙ zeros-roots in
         let count : length (take (columns c) f′) ≡ columns c = ap length flags-zero ∙ zeros-count (take (columns c) ms) ∙ marks-count in
         let size = rows-length (c .degree) (take (columns c) f′) (c .points) count (c .lengths) y (received .count) in
-        let answer = laid-front (filled c y (take (columns c) f′)) a is size (omega (arith, h .cells)) in
+        let answer = take-lay (filled c y (take (columns c) f′)) a is size (omega (arith, h .cells)) in
         λ i. record { array = (ap (filled c y) (sym flags) ∙ sym answer) i; flags = sym flags i }
 
 module _ (c : Code) (y : List ℕ) (lent : Buffers) (t : ℕ) (E : List ℕ) where

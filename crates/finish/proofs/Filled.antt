@@ -15,7 +15,7 @@ use native.Mathlib.Omega.{arith}
 use lib.ListN.{length, getD, take, drop, length-append, length-map}
 use lib.Seq.{drop-drop, length-take-le, take-take}
 use Rattle.patch.specs.Parts.{lay}
-use Rattle.patch.proofs.Parts.{laid-front, lay-behind}
+use Rattle.patch.proofs.Parts.{take-lay, lay-behind}
 use Rattle.field.specs.Symbols.{IsSymbol}
 use Rattle.field.specs.Arithmetic.{gf}
 use Rattle.field.proofs.Laws.{Field}
@@ -82,7 +82,7 @@ module _ (d : ℕ) where
       (few : length gs ≤ length (right fs ys)) (fits : length (right fs ys) ≤ length z)
     where
       first-right : take (length gs) us ≡ take (length gs) (right fs ys)
-      first-right = sym (take-take (length gs) (length (right fs ys)) us few) ∙ ap (take (length gs)) (laid-front (right fs ys) z gathered refl fits)
+      first-right = sym (take-take (length gs) (length (right fs ys)) us few) ∙ ap (take (length gs)) (take-lay (right fs ys) z gathered refl fits)
 
       pub newton : take (length gs) us′ ≡ coefficients gs fs ys
       newton =
@@ -100,7 +100,7 @@ module _ (d : ℕ) where
           let size : length (coefficients gs fs ys) ≡ length gs =
           length-reduce (gf d) 𝓕 (length gs) gs (take (length gs) (right fs ys)) (length-take-le (length gs) (right fs ys) few) in
           let same : map (newtonValue (gf d) (length (take (length gs) us′)) gs (take (length gs) us′)) ws ≡ map value ws = rw (newton, size) in
-          ap (λ (v : List ℕ). put ms v ys) (laid-front (map value ws) z′ (valued ∙ ap (λ (v : List ℕ). lay 0 v z′) same) (length-map ws value) room)
+          ap (λ (v : List ℕ). put ms v ys) (take-lay (map value ws) z′ (valued ∙ ap (λ (v : List ℕ). lay 0 v z′) same) (length-map ws value) room)
 
   module _ (fs xs : List ℕ) (e : length fs ≡ length xs) where
     pub rows-length : (ks y : List ℕ) → length y ≡ length ks * length xs → length (filledRows (gf d) fs xs ks y) ≡ length ks * length xs

@@ -22,8 +22,8 @@ use lib.ListN.{length, getD, take, drop, length-append, length-drop, length-map,
 use lib.Seq.{length-take-le, take-add, take-all, take-append-le, drop-append-le, drop-at, getD-at, getD-drop, ext-getD}
 use Rattle.patch.specs.Patch.{patch}
 use Rattle.patch.specs.Parts.{part, lay}
-use Rattle.patch.proofs.Laws.{length-patch, front-at}
-use Rattle.patch.proofs.Parts.{length-part, part-at, patch-is-lay}
+use Rattle.patch.proofs.Laws.{length-patch, getD-patch-front}
+use Rattle.patch.proofs.Parts.{length-part, getD-part, patch-is-lay}
 use Rattle.poly.specs.Poly.{All}
 use Rattle.codes.proofs.Parts.{all-append}
 use Rattle.hermitian.specs.Ring.{numbers, column}
@@ -56,7 +56,7 @@ front f n l {s} is fits =
     let size : length (take n s) ≡ n = length-take-le n s (omega (arith, ap length is, length-patch 0 f l n)) in
     let size′ : length (map f (numbers n)) ≡ n = length-map (numbers n) f ∙ length-numbers n in
     ext-getD 0 (take n s) (map f (numbers n)) (omega arith)
-    (λ i h. front-at n f l is fits i 0 (omega arith) ∙ sym (mapped-at f n i (omega arith)))
+    (λ i h. getD-patch-front n f l is fits i 0 (omega arith) ∙ sym (mapped-at f n i (omega arith)))
 
 module _ {A B : Type 0} (f : A → List B) where
   flat-append : (l k : List A) → flatMap f (l ++ k) ≡ flatMap f l ++ flatMap f k
@@ -174,7 +174,7 @@ module _ (r n : ℕ) (a : List ℕ) where
 
   place : (x j : ℕ) → x < n → j < r → getD (turned r n a) (x * r + j) 0 ≡ getD a (j * n + x) 0
   place x j h k =
-      sym (part-at (x * r) r (turned r n a) j k) ∙ ap (λ (l : List ℕ). getD l j 0) (part-turned x h) ∙ column-at r n a x j k
+      sym (getD-part (x * r) r (turned r n a) j k) ∙ ap (λ (l : List ℕ). getD l j 0) (part-turned x h) ∙ column-at r n a x j k
 
   -- what stands at a place
   pub turned-at : (i : ℕ) → 0 < r → i < n * r → getD (turned r n a) i 0 ≡ getD a (i % r * n + i / r) 0
@@ -201,7 +201,7 @@ module _ (r n : ℕ) (a : List ℕ) where
       let size : length (part (j * n) n a) ≡ n = length-part (j * n) n a (omega (arith, part-fits n r j h)) in
       let size′ : length (column n r (turned r n a) j) ≡ n = length-column n r (turned r n a) j in
       ext-getD 0 (column n r (turned r n a) j) (part (j * n) n a) (omega arith)
-      (λ x k. column-at n r (turned r n a) j x (omega arith) ∙ place x j (omega arith) h ∙ sym (part-at (j * n) n a x (omega arith)))
+      (λ x k. column-at n r (turned r n a) j x (omega arith) ∙ place x j (omega arith) h ∙ sym (getD-part (j * n) n a x (omega arith)))
 
 pub turned-twice : (r n : ℕ) (a : List ℕ) → length a ≡ r * n → turned n r (turned r n a) ≡ a
 turned-twice r n a e =

@@ -15,7 +15,7 @@ use native.Mathlib.Omega.{arith}
 use lib.ListN.{length, getD}
 use lib.Seq.{ext-getD}
 use Rattle.patch.specs.Parts.{part}
-use Rattle.patch.proofs.Parts.{part-at}
+use Rattle.patch.proofs.Parts.{getD-part}
 use Rattle.codes.specs.Code.{CodeArray, differsAt, flagsOf}
 use Rattle.codes.specs.Near.{Nearest, Near, Far}
 use Rattle.codes.proofs.Columns.{differs-exactly}
@@ -32,7 +32,7 @@ same-symbols : (q : ℕ) (v w : List ℕ) (x : ℕ) → length (part (x * q) q v
 same-symbols q v w x lv lw = Iff·trans (differs-exactly q 1 (x * q) v w) (to, from)
   where
     place : (u : List ℕ) (l : ℕ) → l < q → getD (part (x * q) q u) l 0 ≡ getD u (l * 1 + x * q) 0
-    place u l h = part-at (x * q) q u l h ∙ ap (λ (i : ℕ). getD u i 0) (omega arith)
+    place u l h = getD-part (x * q) q u l h ∙ ap (λ (i : ℕ). getD u i 0) (omega arith)
 
     to : ((l : ℕ) → l < q → getD v (l * 1 + x * q) 0 ≡ getD w (l * 1 + x * q) 0) → part (x * q) q v ≡ part (x * q) q w
     to h = ext-getD 0 (part (x * q) q v) (part (x * q) q w) (omega arith)

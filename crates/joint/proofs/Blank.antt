@@ -11,7 +11,7 @@ use native.Mathlib.Omega.{arith}
 use lib.ListN.{length, take, drop, replicate, length-replicate, getD-replicate}
 use lib.Seq.{ext-getD, length-take-le, take-all}
 use Rattle.patch.specs.Patch.{patch}
-use Rattle.patch.proofs.Laws.{length-patch, front-at}
+use Rattle.patch.proofs.Laws.{length-patch, getD-patch-front}
 use Rattle.codes.specs.Checks.{spaceBytes}
 use Rattle.joint.specs.Promises.{cleared}
 use Rattle.joint.specs.Working.{Blank}
@@ -21,7 +21,7 @@ zeros-front n l {s} is fits =
     let long : length s ≡ length l = ap length is ∙ length-patch 0 (λ k. 0) l n in
     let size : length (take n s) ≡ n = length-take-le n s (omega arith) in
     ext-getD 0 (take n s) (replicate n 0) (size ∙ sym (length-replicate n 0))
-    (λ i h. front-at n (λ k. 0) l is fits i 0 (omega arith) ∙ sym (getD-replicate n i 0 0 (omega arith)))
+    (λ i h. getD-patch-front n (λ k. 0) l is fits i 0 (omega arith) ∙ sym (getD-replicate n i 0 0 (omega arith)))
 
 pub blank-of : (n : ℕ) (l : List ℕ) {s : List ℕ} → s ≡ patch 0 n (λ k. 0) l → length l ≡ n → Blank s
 unfolding Blank

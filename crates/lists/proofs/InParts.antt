@@ -17,9 +17,9 @@ use lib.ListN.{length, getD, set, take, drop}
 use lib.Seq.{getD-take, length-take-le}
 use Rattle.patch.specs.Patch.{patch}
 use Rattle.patch.specs.Parts.{part}
-use Rattle.patch.proofs.Laws.{length-patch, patch-above, patch-cong, patch-append}
+use Rattle.patch.proofs.Laws.{length-patch, getD-patch-above, patch-cong, patch-append}
 use Rattle.patch.proofs.Loops.{Filling, unfilled, turn}
-use Rattle.patch.proofs.Parts.{length-part, part-at}
+use Rattle.patch.proofs.Parts.{length-part, getD-part}
 use Rattle.field.specs.Symbols.{plus, times}
 use Rattle.field.proofs.Sums.{plus-below}
 use Rattle.lists.specs.Working.Lists.{added, multiplied, addedAt, multipliedAt, SymbolsAt, Adding, Multiplying}
@@ -55,7 +55,7 @@ module _ (w l : List ℕ) (at m : ℕ) (fits : m ≤ length w) where
 
   rest-at : (k : ℕ) → k < length w - m → getD (rest w m) k 0 ≡ getD w (m + k) 0
   unfolding part
-  rest-at k h = part-at m (length w - m) w k h
+  rest-at k h = getD-part m (length w - m) w k h
 
   front-length : length (take m w) ≡ m
   front-length = length-take-le m w fits
@@ -76,7 +76,7 @@ module _ (w l : List ℕ) (at m : ℕ) (fits : m ≤ length w) where
     above : (k : ℕ) → getD s (at + m + k) 0 ≡ getD l (at + (m + k)) 0
     above k =
         ap (λ (x : List ℕ). getD x (at + m + k) 0) is
-        ∙ patch-above at (each g (take m w) l at) l (length (take m w)) (at + m + k) 0 (omega (arith, front-length))
+        ∙ getD-patch-above at (each g (take m w) l at) l (length (take m w)) (at + m + k) 0 (omega (arith, front-length))
         ∙ ap (λ (i : ℕ). getD l i 0) (add-assoc at m k)
 
     back-symbols : (d : ℕ) → SymbolsAt d l at (length w) → SymbolsAt d s (at + m) (length (rest w m))

@@ -12,7 +12,7 @@ use native.Mathlib.Omega.{arith}
 use lib.ListN.{length, take, drop}
 use lib.Seq.{length-take-le, take-nil, take-take}
 use Rattle.patch.specs.Parts.{lay}
-use Rattle.patch.proofs.Parts.{laid-front}
+use Rattle.patch.proofs.Parts.{take-lay}
 use Rattle.field.specs.Arithmetic.{Arithmetic, gf}
 use Rattle.field.proofs.Laws.{Field}
 use Rattle.poly.proofs.Forms.{reduce, fromNewton}
@@ -47,7 +47,7 @@ module _ (d k : ℕ) (xs row s : List ℕ) (size : length row ≡ length xs) (fr
 module _ (d k : ℕ) (xs row l s : List ℕ) {held : List ℕ} (size : length row ≡ length xs) (fits : length xs ≤ length l)
     (is : held ≡ lay 0 row l) (reduced : take (length xs) s ≡ reduce (gf d) k xs (take (length xs) held)) where
   pub held-front : take (length xs) s ≡ reduce (gf d) k xs row
-  held-front = reduced ∙ ap (reduce (gf d) k xs) (laid-front row l is size fits)
+  held-front = reduced ∙ ap (reduce (gf d) k xs) (take-lay row l is size fits)
 
   pub held-rest : {n : ℕ} → n ≡ length xs → take (n - k) (drop k s) ≡ drop k (reduce (gf d) k xs row)
   held-rest = reduced-rest d k xs row s size held-front

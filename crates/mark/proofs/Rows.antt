@@ -23,7 +23,7 @@ use native.Mathlib.Omega.{arith}
 use lib.ListN.{length, getD, take, drop, length-drop, replicate}
 use lib.Seq.{drop-cons, drop-drop, length-take-le, take-append-seam, take-length, drop-length}
 use Rattle.patch.specs.Parts.{lay}
-use Rattle.patch.proofs.Parts.{lay-none, laid-front, lay-behind}
+use Rattle.patch.proofs.Parts.{lay-none, take-lay, lay-behind}
 use Rattle.refusal.proofs.Laws.{each-within}
 use Rattle.field.specs.Arithmetic.{gf}
 use Rattle.field.specs.Working.Tables.{IsTable}
@@ -128,7 +128,7 @@ take-copied v l e = rw (e, take-length) (take-append-seam v (drop (length v) l))
 pub copied-lay : (v l old : List ℕ) {s out : List ℕ} → s ≡ lay 0 v l → length v ≡ length old → length v ≤ length l
     → out ≡ take (length (take (length old) s)) (take (length old) s) ++ drop (length (take (length old) s)) old → out ≡ v
 copied-lay v l old {s} {out} is e fits out-is =
-    let front : take (length old) s ≡ v = laid-front v l is e (omega arith) in
+    let front : take (length old) s ≡ v = take-lay v l is e (omega arith) in
     (rw front at out-is) ∙ rw (take-length, e, drop-length old) (append-nil v)
 
 module _ {c : Code} {l p q k : ℕ} (h : Place c l p q k) where

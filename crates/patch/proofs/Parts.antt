@@ -1,11 +1,11 @@
 -- The laws of `part` and `lay`.
 --
---   length-part, part-at      how long a part is, and what stands in it
+--   length-part, getD-part      how long a part is, and what stands in it
 --   length-lay                the length stays
---   lay-inside, lay-below, lay-above    what stands in the row, before it, behind it
+--   getD-lay, getD-lay-below, getD-lay-above    what stands in the row, before it, behind it
 --   lay-none, lay-end         the empty row; a row over the end of a list
 --   lay-part, part-lay        a part laid where it was; what was laid is the part there
---   laid-front                what was laid at the front is the front
+--   take-lay                what was laid at the front is the front
 --   is-lay                    a list that has the row, and agrees with l outside it
 --   lay-cons                  one number, and a row behind it
 --   lay-again                 a row over a row that is not longer
@@ -24,7 +24,7 @@ use lib.ListN.{length, getD, take, drop, set, length-set, length-append, length-
 use lib.Seq.{ext-getD, getD-take, getD-drop, getD-set-same, getD-set-other, length-take-le, getD-append-add}
 use Rattle.patch.specs.Patch.{patch}
 use Rattle.patch.specs.Parts.{part, lay}
-use Rattle.patch.proofs.Laws.{length-patch, patch-inside, patch-below, patch-above, patch-cong}
+use Rattle.patch.proofs.Laws.{length-patch, getD-patch, getD-patch-below, getD-patch-above, patch-cong}
 
 -- two lists that agree before a part, in it and behind it are equal
 same-by : (at n : ℕ) (a b : List ℕ) → length a ≡ length b
@@ -44,31 +44,31 @@ pub length-part : (at n : ℕ) (l : List ℕ) → at + n ≤ length l → length
 unfolding part
 length-part at n l fits = length-take-le n (drop at l) (omega (arith, length-drop at l))
 
-pub part-at : (at n : ℕ) (l : List ℕ) (k : ℕ) → k < n → getD (part at n l) k 0 ≡ getD l (at + k) 0
+pub getD-part : (at n : ℕ) (l : List ℕ) (k : ℕ) → k < n → getD (part at n l) k 0 ≡ getD l (at + k) 0
 unfolding part
-part-at at n l k h = getD-take n (drop at l) k 0 h ∙ getD-drop at l k 0
+getD-part at n l k h = getD-take n (drop at l) k 0 h ∙ getD-drop at l k 0
 
 module _ (at : ℕ) (v l : List ℕ) where
   pub length-lay : length (lay at v l) ≡ length l
   unfolding lay
   length-lay = length-patch at (λ k. getD v k 0) l (length v)
 
-  pub lay-inside : (k : ℕ) → k < length v → at + length v ≤ length l → getD (lay at v l) (at + k) 0 ≡ getD v k 0
+  pub getD-lay : (k : ℕ) → k < length v → at + length v ≤ length l → getD (lay at v l) (at + k) 0 ≡ getD v k 0
   unfolding lay
-  lay-inside k h fits = patch-inside at (λ k. getD v k 0) l (length v) k 0 h fits
+  getD-lay k h fits = getD-patch at (λ k. getD v k 0) l (length v) k 0 h fits
 
-  pub lay-below : (i : ℕ) → i < at → getD (lay at v l) i 0 ≡ getD l i 0
+  pub getD-lay-below : (i : ℕ) → i < at → getD (lay at v l) i 0 ≡ getD l i 0
   unfolding lay
-  lay-below i h = patch-below at (λ k. getD v k 0) l (length v) i 0 h
+  getD-lay-below i h = getD-patch-below at (λ k. getD v k 0) l (length v) i 0 h
 
-  pub lay-above : (i : ℕ) → at + length v ≤ i → getD (lay at v l) i 0 ≡ getD l i 0
+  pub getD-lay-above : (i : ℕ) → at + length v ≤ i → getD (lay at v l) i 0 ≡ getD l i 0
   unfolding lay
-  lay-above i h = patch-above at (λ k. getD v k 0) l (length v) i 0 h
+  getD-lay-above i h = getD-patch-above at (λ k. getD v k 0) l (length v) i 0 h
 
   pub part-lay : at + length v ≤ length l → part at (length v) (lay at v l) ≡ v
   part-lay fits =
       let size : length (part at (length v) (lay at v l)) ≡ length v = length-part at (length v) (lay at v l) (rw length-lay fits) in
-      ext-getD 0 _ v size (λ k h. part-at at (length v) (lay at v l) k (omega arith) ∙ lay-inside k (omega arith) fits)
+      ext-getD 0 _ v size (λ k h. getD-part at (length v) (lay at v l) k (omega arith) ∙ getD-lay k (omega arith) fits)
 
 pub lay-none : (at : ℕ) (l : List ℕ) → lay at [] l ≡ l
 unfolding lay patch
@@ -86,21 +86,21 @@ pub is-lay : (at : ℕ) (v l s : List ℕ) → at + length v ≤ length l → le
     → ((i : ℕ) → at + length v ≤ i → getD s i 0 ≡ getD l i 0) → s ≡ lay at v l
 is-lay at v l s fits e below inside above =
     same-by at (length v) s (lay at v l) (e ∙ sym (length-lay at v l))
-    (λ i h. below i h ∙ sym (lay-below at v l i h))
-    (λ k h. inside k h ∙ sym (lay-inside at v l k h fits))
-    (λ i h. above i h ∙ sym (lay-above at v l i h))
+    (λ i h. below i h ∙ sym (getD-lay-below at v l i h))
+    (λ k h. inside k h ∙ sym (getD-lay at v l k h fits))
+    (λ i h. above i h ∙ sym (getD-lay-above at v l i h))
 
 pub lay-part : (at n : ℕ) (l : List ℕ) → at + n ≤ length l → lay at (part at n l) l ≡ l
 lay-part at n l fits =
     let size : length (part at n l) ≡ n = length-part at n l fits in
-    sym (is-lay at (part at n l) l l (omega arith) refl (λ i h. refl) (λ k h. sym (part-at at n l k (omega arith))) (λ i h. refl))
+    sym (is-lay at (part at n l) l l (omega arith) refl (λ i h. refl) (λ k h. sym (getD-part at n l k (omega arith))) (λ i h. refl))
 
 pub lay-again : (at : ℕ) (v w l : List ℕ) → length v ≤ length w → at + length w ≤ length l → lay at w (lay at v l) ≡ lay at w l
 lay-again at v w l h fits =
     is-lay at w l (lay at w (lay at v l)) fits (length-lay at w (lay at v l) ∙ length-lay at v l)
-    (λ i k. lay-below at w (lay at v l) i k ∙ lay-below at v l i k)
-    (λ i k. lay-inside at w (lay at v l) i k (rw length-lay fits))
-    (λ i k. lay-above at w (lay at v l) i k ∙ lay-above at v l i (omega arith))
+    (λ i k. getD-lay-below at w (lay at v l) i k ∙ getD-lay-below at v l i k)
+    (λ i k. getD-lay at w (lay at v l) i k (rw length-lay fits))
+    (λ i k. getD-lay-above at w (lay at v l) i k ∙ getD-lay-above at v l i (omega arith))
 
 pub lay-end : (at : ℕ) (v l : List ℕ) → at + length v ≡ length l → take at l ++ v ≡ lay at v l
 lay-end at v l e =
@@ -115,33 +115,33 @@ pub lay-cons : (at c : ℕ) (v l : List ℕ) → at + suc (length v) ≤ length 
 lay-cons at c v l fits =
     let size : length (set l at c) ≡ length l = length-set l at c in
     is-lay at (c ∷ v) l (lay (at + 1) v (set l at c)) fits (length-lay (at + 1) v (set l at c) ∙ size)
-    (λ i h. lay-below (at + 1) v (set l at c) i (omega arith) ∙ getD-set-other l at i c 0 (omega arith))
+    (λ i h. getD-lay-below (at + 1) v (set l at c) i (omega arith) ∙ getD-set-other l at i c 0 (omega arith))
     (λ k h. inside k h)
-    (λ i h. lay-above (at + 1) v (set l at c) i (omega arith) ∙ getD-set-other l at i c 0 (omega arith))
+    (λ i h. getD-lay-above (at + 1) v (set l at c) i (omega arith) ∙ getD-set-other l at i c 0 (omega arith))
   where
     inside : (k : ℕ) → k < suc (length v) → getD (lay (at + 1) v (set l at c)) (at + k) 0 ≡ getD (c ∷ v) k 0
     inside zero h =
         ap (λ (x : ℕ). getD (lay (at + 1) v (set l at c)) x 0) (add-zero at)
-        ∙ lay-below (at + 1) v (set l at c) at (omega arith) ∙ getD-set-same l at c 0 (omega arith)
+        ∙ getD-lay-below (at + 1) v (set l at c) at (omega arith) ∙ getD-set-same l at c 0 (omega arith)
     inside (suc k) h =
         ap (λ (x : ℕ). getD (lay (at + 1) v (set l at c)) x 0) (omega arith)
-        ∙ lay-inside (at + 1) v (set l at c) k (omega arith) (rw length-set (omega arith))
+        ∙ getD-lay (at + 1) v (set l at c) k (omega arith) (rw length-set (omega arith))
 
 module _ (at : ℕ) (v l : List ℕ) (fits : at + length v ≤ length l) where
   set-lay : (i a : ℕ) → i < length v → set (lay at v l) (at + i) a ≡ lay at (set v i a) l
   set-lay i a h =
       let size : length (set v i a) ≡ length v = length-set v i a in
       is-lay at (set v i a) l (set (lay at v l) (at + i) a) (omega arith) (length-set (lay at v l) (at + i) a ∙ length-lay at v l)
-      (λ j k. getD-set-other (lay at v l) (at + i) j a 0 (omega arith) ∙ lay-below at v l j k)
+      (λ j k. getD-set-other (lay at v l) (at + i) j a 0 (omega arith) ∙ getD-lay-below at v l j k)
       (λ j k. go j (omega arith) (ℕ-discrete j i))
-      (λ j k. getD-set-other (lay at v l) (at + i) j a 0 (omega arith) ∙ lay-above at v l j (omega arith))
+      (λ j k. getD-set-other (lay at v l) (at + i) j a 0 (omega arith) ∙ getD-lay-above at v l j (omega arith))
     where
       go : (j : ℕ) → j < length v → Dec (j ≡ i) → getD (set (lay at v l) (at + i) a) (at + j) 0 ≡ getD (set v i a) j 0
       go j k (yes e) =
           rw e (getD-set-same (lay at v l) (at + i) a 0 (rw length-lay (omega arith)) ∙ sym (getD-set-same v i a 0 h))
       go j k (no e) =
           getD-set-other (lay at v l) (at + i) (at + j) a 0 (omega arith)
-          ∙ lay-inside at v l j k fits ∙ sym (getD-set-other v i j a 0 e)
+          ∙ getD-lay at v l j k fits ∙ sym (getD-set-other v i j a 0 e)
 
 pub patch-lay : (at j m : ℕ) (f : ℕ → ℕ) (v l : List ℕ) → j + m ≤ length v → at + length v ≤ length l
     → patch (at + j) m f (lay at v l) ≡ lay at (patch j m f v) l
@@ -158,21 +158,21 @@ lay-append at v w l fits =
     let size : length (v ++ w) ≡ length v + length w = length-append v w in
     let long : length (lay at v l) ≡ length l = length-lay at v l in
     is-lay at (v ++ w) l (lay (at + length v) w (lay at v l)) fits (length-lay (at + length v) w (lay at v l) ∙ long)
-    (λ i h. lay-below (at + length v) w (lay at v l) i (omega arith) ∙ lay-below at v l i h)
+    (λ i h. getD-lay-below (at + length v) w (lay at v l) i (omega arith) ∙ getD-lay-below at v l i h)
     (λ k h. inside k (omega arith) (omega arith) (decLt k (length v)))
-    (λ i h. lay-above (at + length v) w (lay at v l) i (omega arith) ∙ lay-above at v l i (omega arith))
+    (λ i h. getD-lay-above (at + length v) w (lay at v l) i (omega arith) ∙ getD-lay-above at v l i (omega arith))
   where
     inside : (k : ℕ) → k < length v + length w → at + (length v + length w) ≤ length l → Dec (k < length v)
         → getD (lay (at + length v) w (lay at v l)) (at + k) 0 ≡ getD (v ++ w) k 0
     inside k h f (yes g) =
-        lay-below (at + length v) w (lay at v l) (at + k) (omega arith)
-        ∙ lay-inside at v l k g (omega arith) ∙ sym (List·getD-append v w 0 k g)
+        getD-lay-below (at + length v) w (lay at v l) (at + k) (omega arith)
+        ∙ getD-lay at v l k g (omega arith) ∙ sym (List·getD-append v w 0 k g)
     inside k h f (no g) =
         let long : length (lay at v l) ≡ length l = length-lay at v l in
         let e : at + k ≡ at + length v + (k - length v) = omega arith in
         let e′ : length v + (k - length v) ≡ k = omega arith in
         ap (λ (i : ℕ). getD (lay (at + length v) w (lay at v l)) i 0) e
-        ∙ lay-inside (at + length v) w (lay at v l) (k - length v) (omega arith) (omega arith)
+        ∙ getD-lay (at + length v) w (lay at v l) (k - length v) (omega arith) (omega arith)
         ∙ sym (getD-append-add v w (k - length v) 0)
         ∙ ap (λ (i : ℕ). getD (v ++ w) i 0) e′
 
@@ -214,7 +214,7 @@ lay-rest at v l {s} fits is = is-lay at v l (take at l ++ (s ++ none)) fits whol
 
     inside : (k : ℕ) → k < length v → getD (take at l ++ (s ++ none)) (at + k) 0 ≡ getD v k 0
     inside k h = behind-front k (omega arith) ∙ ap (λ (j : ℕ). getD (lay 0 v rest) j 0) (sym (zero-add k))
-        ∙ lay-inside 0 v rest k h (omega (arith, left))
+        ∙ getD-lay 0 v rest k h (omega (arith, left))
 
     above : (i : ℕ) → at + length v ≤ i → getD (take at l ++ (s ++ none)) i 0 ≡ getD l i 0
     above i h = go (decLt i (length l))
@@ -224,15 +224,15 @@ lay-rest at v l {s} fits is = is-lay at v l (take at l ++ (s ++ none)) fits whol
             let e : at + (i - at) ≡ i = omega arith in
             ap (λ (j : ℕ). getD (take at l ++ (s ++ none)) j 0) (sym e)
             ∙ behind-front (i - at) (omega arith)
-            ∙ lay-above 0 v rest (i - at) (omega arith)
+            ∙ getD-lay-above 0 v rest (i - at) (omega arith)
             ∙ getD-take (length l - at) (drop at l) (i - at) 0 (omega arith)
             ∙ getD-drop at l (i - at) 0
             ∙ ap (λ (j : ℕ). getD l j 0) e
         go (no g) = List·getD-eq-default (take at l ++ (s ++ none)) 0 (omega (arith, whole)) ∙ sym (List·getD-eq-default l 0 (omega arith))
 
-pub laid-front : (v l : List ℕ) {n : ℕ} {s : List ℕ} → s ≡ lay 0 v l → length v ≡ n → n ≤ length l → take n s ≡ v
+pub take-lay : (v l : List ℕ) {n : ℕ} {s : List ℕ} → s ≡ lay 0 v l → length v ≡ n → n ≤ length l → take n s ≡ v
 unfolding part
-laid-front v l is size fits = rw (is, ← size) (part-lay 0 v l (omega arith))
+take-lay v l is size fits = rw (is, ← size) (part-lay 0 v l (omega arith))
 
 -- what is laid at a place, and then the rest behind it
 pub lay-behind : (at : ℕ) (v w l : List ℕ) {n : ℕ} {s : List ℕ} → length v ≡ n → s ≡ lay at v l → at + length (v ++ w) ≤ length l

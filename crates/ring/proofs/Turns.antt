@@ -18,7 +18,7 @@ use native.Mathlib.Omega.{arith}
 use lib.ListN.{length, take, drop, length-append, length-take}
 use Rattle.refusal.specs.Refusal.{badDegree}
 use Rattle.patch.specs.Parts.{part, lay}
-use Rattle.patch.proofs.Parts.{lay-none, lay-end, laid-front, lay-append}
+use Rattle.patch.proofs.Parts.{lay-none, lay-end, take-lay, lay-append}
 use Rattle.field.specs.Symbols.{IsSymbol}
 use Rattle.field.specs.Arithmetic.{gf}
 use Rattle.field.proofs.Instance.{field}
@@ -132,7 +132,7 @@ module _ {q n : ℕ} (size : badSize q ≡ false) (count : n ≡ q) {w : List �
     -- the columns of the array, at the front
     turned-front : take (length w) c ≡ turned q (q * q) w
     turned-front =
-        laid-front (turned q (q * q) w) z (rw count at is) (length-turned q (q * q) w ∙ sym (h .count)) (omega (arith, h .count))
+        take-lay (turned q (q * q) w) z (rw count at is) (length-turned q (q * q) w ∙ sym (h .count)) (omega (arith, h .count))
 
     pub columns-ring : IsRing q (take (length w) c)
     columns-ring = rw turned-front (record {
@@ -152,6 +152,6 @@ module _ {q n : ℕ} (size : badSize q ≡ false) (count : n ≡ q) {w : List �
   unfolding coefficients columnsOf arrayOf
   array-made is then =
       let columns : take (length w) c ≡ columnsOf q w =
-      laid-front (columnsOf q w) z is (columns-length q size h ∙ sym (h .count)) (omega (arith, h .count)) in
+      take-lay (columnsOf q w) z is (columns-length q size h ∙ sym (h .count)) (omega (arith, h .count)) in
       let long : length (arrayOf q w) ≡ length w = is-array q size h .count ∙ sym (h .count) in
-      array-exactly q size h _ .1 (sym (laid-front (arrayOf q w) z (rw (count, columns) at then) long (omega (arith, h .count))))
+      array-exactly q size h _ .1 (sym (take-lay (arrayOf q w) z (rw (count, columns) at then) long (omega (arith, h .count))))

@@ -19,7 +19,7 @@ use lib.Seq.{drop-cons}
 use Rattle.patch.specs.Patch.{patch}
 use Rattle.patch.specs.Parts.{lay}
 use Rattle.patch.proofs.Laws.{length-patch}
-use Rattle.patch.proofs.Parts.{length-lay, lay-inside, lay-again, patch-is-lay}
+use Rattle.patch.proofs.Parts.{length-lay, getD-lay, lay-again, patch-is-lay}
 use Rattle.refusal.specs.Refusal.{badDegree}
 use Rattle.field.specs.Symbols.{IsSymbol, plus, times}
 use Rattle.lists.specs.Working.Lists.{multiplied, multipliedAt, SymbolsAt}
@@ -43,7 +43,7 @@ module _ (at : ℕ) (xs l : List ℕ) (fits : at + length xs ≤ length l) where
   getD-lay-map : (f : ℕ → ℕ) {s : List ℕ} → s ≡ lay at (map f xs) l → (i : ℕ) → i < length xs → getD s (at + i) 0 ≡ f (getD xs i 0)
   getD-lay-map f is i h =
       let size : length (map f xs) ≡ length xs = length-map xs f in
-      rw is (lay-inside at (map f xs) l i (omega arith) (omega arith)) ∙ getD-map f xs i h
+      rw is (getD-lay at (map f xs) l i (omega arith) (omega arith)) ∙ getD-map f xs i h
 
   patch-map : (g f : ℕ → ℕ) {s : List ℕ} → s ≡ patch at (length xs) g l → ((i : ℕ) → i < length xs → g i ≡ f (getD xs i 0))
       → s ≡ lay at (map f xs) l

@@ -18,9 +18,9 @@ use lib.ListN.{length, getD, take, drop, set, length-drop, List·getD-eq-default
 use lib.Seq.{drop-cons}
 use Rattle.patch.specs.Patch.{patch}
 use Rattle.patch.specs.Parts.{part, lay}
-use Rattle.patch.proofs.Laws.{length-patch, patch-inside, patch-below, patch-above}
-use Rattle.patch.proofs.Parts.{length-lay, lay-inside, lay-below, lay-above, lay-none, lay-cons}
-use Rattle.patch.proofs.Parts.{lay-again, length-part, part-lay, laid-front, is-lay}
+use Rattle.patch.proofs.Laws.{length-patch, getD-patch, getD-patch-below, getD-patch-above}
+use Rattle.patch.proofs.Parts.{length-lay, getD-lay, getD-lay-below, getD-lay-above, lay-none, lay-cons}
+use Rattle.patch.proofs.Parts.{lay-again, length-part, part-lay, take-lay, is-lay}
 use Rattle.refusal.specs.Refusal.{badDegree}
 use Rattle.field.specs.Symbols.{plus, times}
 use Rattle.lists.specs.Working.Lists.{added}
@@ -49,9 +49,9 @@ module _ (d : ℕ) (good : badDegree d ≡ false) where
   lin-row at a c q l {s} {t} fits is then =
       then ∙ is-lay at (lin (gf d) a c q) l r (omega (arith, size))
       (length-patch at f s n ∙ long)
-      (λ i h. patch-below at f s n i 0 h ∙ outside i (lay-below at (c ∷ q) l i h))
+      (λ i h. getD-patch-below at f s n i 0 h ∙ outside i (getD-lay-below at (c ∷ q) l i h))
       (λ k h. inside k (omega (arith, size)) (decLt k n))
-      (λ i h. patch-above at f s n i 0 (omega (arith, size)) ∙ outside i (lay-above at (c ∷ q) l i (omega (arith, size))))
+      (λ i h. getD-patch-above at f s n i 0 (omega (arith, size)) ∙ outside i (getD-lay-above at (c ∷ q) l i (omega (arith, size))))
     where
       n : ℕ
       n = length q
@@ -72,15 +72,15 @@ module _ (d : ℕ) (good : badDegree d ≡ false) where
       outside i e = rw is e
 
       stood : (k : ℕ) → k < suc n → getD s (at + k) 0 ≡ getD (c ∷ q) k 0
-      stood k h = rw is (lay-inside at (c ∷ q) l k h fits)
+      stood k h = rw is (getD-lay at (c ∷ q) l k h fits)
 
       inside : (k : ℕ) → k < suc n → Dec (k < n) → getD r (at + k) 0 ≡ getD (lin (gf d) a c q) k 0
       inside k h (yes g) =
-          patch-inside at f s n k 0 g (omega (arith, long))
+          getD-patch at f s n k 0 g (omega (arith, long))
           ∙ ap₂ plus (stood k h) (times-comm (gf d) (field d good) (getD q k 0) a) ∙ sym (getD-lin a c q k (omega arith))
       inside k h (no g) =
           let end : getD q k 0 ≡ 0 = List·getD-eq-default q 0 (omega arith) in
-          patch-above at f s n (at + k) 0 (omega arith) ∙ stood k h
+          getD-patch-above at f s n (at + k) 0 (omega arith) ∙ stood k h
           ∙ sym (getD-lin a c q k (omega arith)
           ∙ rw (end, times-zero (gf d) (field d good) a) (plus-zero (gf d) (field d good) (getD (c ∷ q) k 0)))
 
@@ -97,7 +97,7 @@ take-copied at m l z {p} room fits is =
     let q : List ℕ = part at m l in
     let size : length q ≡ m = length-part at m l fits in
     let all : at + m - at ≡ m = omega arith in
-    laid-front q z (rw all at is) size room
+    take-lay q z (rw all at is) size room
 
 module _ (d : ℕ) (good : badDegree d ≡ false) (nodes us : List ℕ) (enough : length us ≤ length nodes) where
   newton-cons : (j : ℕ) → j < length us

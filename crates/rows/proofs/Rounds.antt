@@ -25,7 +25,7 @@ use lib.Seq.{getD-drop, take-set-le, take-set-lt}
 use Rattle.patch.specs.Patch.{patch}
 use Rattle.patch.specs.Parts.{part, lay}
 use Rattle.patch.proofs.Laws.{patch-cong}
-use Rattle.patch.proofs.Parts.{length-part, part-at, length-lay, lay-end, part-lay, patch-is-lay, patch-lay}
+use Rattle.patch.proofs.Parts.{length-part, getD-part, length-lay, lay-end, part-lay, patch-is-lay, patch-lay}
 use Rattle.refusal.specs.Refusal.{badDegree}
 use Rattle.field.specs.Symbols.{plus, times, over}
 use Rattle.lists.specs.Working.Lists.{multiplied, SymbolsAt}
@@ -149,7 +149,7 @@ module _ (d : ℕ) (good : badDegree d ≡ false) (at j : ℕ) (xs l w : List �
       let y-in : y < 2 ^ d = divisor-symbol d good xs j (j + 1 + i) points h (omega arith) in
       ap (λ (v : ℕ). times d (plus v 0) u) (each i k)
       ∙ times-inverse d good u y u-in y-in (divisor d good xs j (j + 1 + i) points (omega arith) (omega arith))
-      ∙ rw (part-at at (length xs) l (j + 1 + i) (omega arith), part-at at (length xs) l j h, add-assoc at (j + 1) i)
+      ∙ rw (getD-part at (length xs) l (j + 1 + i) (omega arith), getD-part at (length xs) l j h, add-assoc at (j + 1) i)
 
 -- w being the inverses
 module _ {d : ℕ} {table xs : List ℕ} {j : ℕ} {w l : List ℕ} {at : ℕ} (given : Round d table xs j w l at) where

@@ -19,7 +19,7 @@ use lib.ListN.{length, getD, take, drop, length-drop}
 use lib.Pow.{pow-pos}
 use lib.Seq.{length-take-le, getD-take, getD-drop}
 use Rattle.patch.specs.Patch.{patch}
-use Rattle.patch.proofs.Laws.{length-patch, patch-inside, patch-below, front-at}
+use Rattle.patch.proofs.Laws.{length-patch, getD-patch, getD-patch-below, getD-patch-front}
 use Rattle.refusal.specs.Refusal.{badDegree}
 use Rattle.field.specs.Symbols.{IsSymbol}
 use Rattle.field.specs.Arithmetic.{gf}
@@ -38,7 +38,7 @@ module _ (d : ℕ) (xs : List ℕ) where
       let long : length w ≡ length l = rw is (length-patch 0 (inverse d xs j) l (length xs - (j + 1))) in
       record {
         count = length-take-le (length xs - (j + 1)) w (omega arith);
-        each = λ i h. front-at (length xs - (j + 1)) (inverse d xs j) l is (omega arith) i 0 h;
+        each = λ i h. getD-patch-front (length xs - (j + 1)) (inverse d xs j) l is (omega arith) i 0 h;
       }
 
   pub no-rounds : (ws : List ℕ) → All (IsSymbol d) ws → Inverses d xs 0 ws
@@ -61,10 +61,10 @@ module _ (d : ℕ) (xs : List ℕ) where
 
       by : (r i : ℕ) → r ≤ j → i < length xs - (r + 1) → Dec (r < j) → getD t (96 * r + i) 0 ≡ inverse d xs r i
       by r i h k (yes g) =
-          rw is (patch-below (96 * j) (inverse d xs j) ws n (96 * r + i) 0 (omega arith) ∙ before .each r i g k)
+          rw is (getD-patch-below (96 * j) (inverse d xs j) ws n (96 * r + i) 0 (omega arith) ∙ before .each r i g k)
       by r i h k (no g) =
           let e : r ≡ j = omega arith in
-          rw (e, is) (patch-inside (96 * j) (inverse d xs j) ws n i 0 (omega arith) (omega arith))
+          rw (e, is) (getD-patch (96 * j) (inverse d xs j) ws n i 0 (omega arith) (omega arith))
 
   module _ {k : ℕ} {ws : List ℕ} (all : Inverses d xs k ws) where
     -- m symbols of ws from those of round j on

@@ -18,8 +18,8 @@ use lib.ListN.{length, getD, replicate, length-replicate}
 use lib.Pow.{pow-pos}
 use Rattle.patch.specs.Patch.{patch}
 use Rattle.patch.specs.Parts.{part, lay}
-use Rattle.patch.proofs.Laws.{patch-inside, patch-below, patch-above}
-use Rattle.patch.proofs.Parts.{length-part, part-at, lay-inside}
+use Rattle.patch.proofs.Laws.{getD-patch, getD-patch-below, getD-patch-above}
+use Rattle.patch.proofs.Parts.{length-part, getD-part, getD-lay}
 use Rattle.field.specs.Symbols.{IsSymbol}
 use Rattle.lists.specs.Working.Lists.{SymbolsAt}
 use Rattle.poly.specs.Poly.{All}
@@ -40,22 +40,22 @@ module _ (d : ℕ) where
   pub symbols-part : (at n : ℕ) (l : List ℕ) → at + n ≤ length l → SymbolsAt d l at n → All (IsSymbol d) (part at n l)
   symbols-part at n l fits s =
       let size : length (part at n l) ≡ n = length-part at n l fits in
-      symbols-by (part at n l) (λ i h. rw (part-at at n l i (omega arith)) (s i (omega arith)))
+      symbols-by (part at n l) (λ i h. rw (getD-part at n l i (omega arith)) (s i (omega arith)))
 
   pub symbols-lay : (at : ℕ) (v l : List ℕ) {n : ℕ} {s : List ℕ} → s ≡ lay at v l → length v ≡ n → at + n ≤ length l
       → All (IsSymbol d) v → SymbolsAt d s at n
-  symbols-lay at v l is e fits a k h = rw (is, lay-inside at v l k (omega arith) (omega arith)) (symbol-at v k a (omega arith))
+  symbols-lay at v l is e fits a k h = rw (is, getD-lay at v l k (omega arith) (omega arith)) (symbol-at v k a (omega arith))
 
   pub symbol-patch : (at n : ℕ) (f : ℕ → ℕ) (l : List ℕ) {s : List ℕ} → s ≡ patch at n f l → at + n ≤ length l
       → ((k : ℕ) → k < n → f k < 2 ^ d) → (i : ℕ) → getD l i 0 < 2 ^ d → getD s i 0 < 2 ^ d
   symbol-patch at n f l {s} is fits each i here = rw is (by (decLt i at) (decLt i (at + n)))
     where
       by : Dec (i < at) → Dec (i < at + n) → getD (patch at n f l) i 0 < 2 ^ d
-      by (yes h) g = rw (patch-below at f l n i 0 h) here
+      by (yes h) g = rw (getD-patch-below at f l n i 0 h) here
       by (no h) (yes g) =
           let e : at + (i - at) ≡ i = omega arith in
-          rw (← e, patch-inside at f l n (i - at) 0 (omega arith) fits) (each (i - at) (omega arith))
-      by (no h) (no g) = rw (patch-above at f l n i 0 (omega arith)) here
+          rw (← e, getD-patch at f l n (i - at) 0 (omega arith) fits) (each (i - at) (omega arith))
+      by (no h) (no g) = rw (getD-patch-above at f l n i 0 (omega arith)) here
 
   pub symbols-zeros : (n : ℕ) → All (IsSymbol d) (replicate n 0)
   symbols-zeros zero = tt

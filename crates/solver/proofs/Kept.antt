@@ -14,7 +14,7 @@ use native.Mathlib.Decide.{decLt}
 use native.Mathlib.Omega.{arith}
 use lib.ListN.{length, getD, List·getD-eq-default}
 use Rattle.patch.specs.Patch.{patch}
-use Rattle.patch.proofs.Laws.{patch-inside, patch-above}
+use Rattle.patch.proofs.Laws.{getD-patch, getD-patch-above}
 use Rattle.refusal.specs.Refusal.{badDegree}
 use Rattle.field.specs.Symbols.{IsSymbol, plus, times}
 use Rattle.field.specs.Arithmetic.{gf}
@@ -78,9 +78,9 @@ added-at d good c w l at k fits = go (decLt k (length w))
     turned = ap (plus (getD l (at + k) 0)) (times-comm (gf d) (field d good) (getD w k 0) c)
 
     go : Dec (k < length w) → getD (patch at (length w) (added d c w l at) l) (at + k) 0 ≡ plus (getD l (at + k) 0) (times d c (getD w k 0))
-    go (yes h) = patch-inside at (added d c w l at) l (length w) k 0 h fits ∙ turned
+    go (yes h) = getD-patch at (added d c w l at) l (length w) k 0 h fits ∙ turned
     go (no h) =
-        patch-above at (added d c w l at) l (length w) (at + k) 0 (omega arith)
+        getD-patch-above at (added d c w l at) l (length w) (at + k) 0 (omega arith)
         ∙ rw (List·getD-eq-default w 0 {n = k} (omega arith), times-zero (gf d) (field d good) c) (sym (plus-zero (gf d) (field d good) _))
 
 module _ (d : ℕ) (good : badDegree d ≡ false) (C s i : ℕ) (next : i < C) {l l₀ : List ℕ} {m m₀ : ℕ} {e p : Line ℕ}

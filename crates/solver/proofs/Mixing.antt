@@ -16,7 +16,7 @@ use lib.ListN.{length, getD, take, drop}
 use lib.Seq.{ext-getD, getD-take, length-take-le}
 use Rattle.patch.specs.Patch.{patch}
 use Rattle.patch.specs.Parts.{part, lay}
-use Rattle.patch.proofs.Laws.{length-patch, patch-inside, patch-below, patch-cong, patch-kept}
+use Rattle.patch.proofs.Laws.{length-patch, getD-patch, getD-patch-below, patch-cong, patch-kept}
 use Rattle.patch.proofs.Parts.{length-part, length-lay}
 use Rattle.refusal.specs.Refusal.{badDegree}
 use Rattle.field.specs.Symbols.{plus, times, over}
@@ -85,10 +85,10 @@ copied p at n l z {v} {w} within fits room is zeroed =
     let same : take n w ≡ take n v =
     ext-getD 0 _ _ (length-take-le n w (rw (zeroed, length-patch) (omega arith)) ∙ sym (length-take-le n v (omega arith)))
     (λ k lt. let below : k < n = omega (arith, length-take-le n w (rw (zeroed, length-patch) (omega arith))) in
-    getD-take n w k 0 below ∙ rw zeroed (patch-below n (λ (i : ℕ). 0) v 16 k 0 below) ∙ sym (getD-take n v k 0 below)) in
+    getD-take n w k 0 below ∙ rw zeroed (getD-patch-below n (λ (i : ℕ). 0) v 16 k 0 below) ∙ sym (getD-take n v k 0 below)) in
     record {
       front = rw size (same ∙ front);
-      zeros = λ k h. rw (size, zeroed) (patch-inside n (λ (i : ℕ). 0) v 16 k 0 h (omega arith));
+      zeros = λ k h. rw (size, zeroed) (getD-patch n (λ (i : ℕ). 0) v 16 k 0 h (omega arith));
     }
 
 module _ (d : ℕ) (good : badDegree d ≡ false) (q w : List ℕ) (copy : Copied q w) (m : ℕ) (from : length q ≤ m) (to : m ≤ length q + 16) (fits : m ≤ length w) where

@@ -18,7 +18,7 @@ use native.Mathlib.Decide.{ℕ-discrete, decLt}
 use native.Mathlib.Omega.{arith}
 use lib.ListN.{length, getD, getElem?, List·getD-append}
 use Rattle.patch.specs.Patch.{patch}
-use Rattle.patch.proofs.Laws.{patch-inside}
+use Rattle.patch.proofs.Laws.{getD-patch}
 use Rattle.refusal.specs.Refusal.{badDegree}
 use Rattle.field.specs.Symbols.{IsSymbol}
 use Rattle.field.specs.Arithmetic.{gf}
@@ -60,7 +60,7 @@ pub record Ready (d s i : ℕ) (leads ds : List ℕ) (r : ℕ) : Type 0 where
 pub heads-at : (space : List ℕ) (i n : ℕ) (l : List ℕ) {ds : List ℕ} → n ≤ length l → ds ≡ patch 0 n (λ j. getD space (768 * j + i) 0) l
     → (j : ℕ) → j < n → getD ds j 0 ≡ getD space (768 * j + i) 0
 heads-at space i n l {ds} fits is j lt =
-    ap (λ (k : ℕ). getD ds k 0) (sym (zero-add j)) ∙ rw is (patch-inside 0 _ l n j 0 lt (omega arith))
+    ap (λ (k : ℕ). getD ds k 0) (sym (zero-add j)) ∙ rw is (getD-patch 0 _ l n j 0 lt (omega arith))
 
 module _ (d C s i : ℕ) (next : i < C) (small : C ≤ 380) {leads space : List ℕ} {es : List (Line ℕ)} (h : HoldsLines d C s i leads space es) where
   pub value-at : (j : ℕ) → j < s → getD space (768 * j + i) 0 ≡ now (gf d) (getD es j blank)

@@ -11,8 +11,8 @@ use native.Mathlib.Decide.{decLt}
 use native.Mathlib.Omega.{arith}
 use lib.ListN.{length, getD, List·getD-append, List·getD-eq-default}
 use Rattle.patch.specs.Parts.{part, lay}
-use Rattle.patch.proofs.Laws.{length-patch, patch-inside, patch-above}
-use Rattle.patch.proofs.Parts.{length-part, part-at, lay-inside, lay-below, lay-above}
+use Rattle.patch.proofs.Laws.{length-patch, getD-patch, getD-patch-above}
+use Rattle.patch.proofs.Parts.{length-part, getD-part, getD-lay, getD-lay-below, getD-lay-above}
 use Rattle.refusal.specs.Refusal.{badDegree}
 use Rattle.field.specs.Symbols.{IsSymbol, plus, times}
 use Rattle.field.specs.Arithmetic.{gf}
@@ -56,7 +56,7 @@ module _ (d : ℕ) (good : badDegree d ≡ false) (C s i : ℕ) (next : i < C) {
     value-at : (k : ℕ) → k < length xs → getD new (i + 1 + k) 0 ≡ getD lifts k 0
     unfolding valued multiplied
     value-at k lt =
-        patch-inside (i + 1) _ l (length xs) k 0 lt (omega arith)
+        getD-patch (i + 1) _ l (length xs) k 0 lt (omega arith)
         ∙ ap (times d (plus (getD xs k 0) x))
         (plus-zero (gf d) (field d good) _ ∙ slot-next d C s i next h k (omega arith) ∙ List·getD-append (later (p .values)) (p .locator) 0 k (omega (arith, lengths)))
         ∙ sym (lifted-at (gf d) x xs (later (p .values)) lengths k lt)
@@ -66,7 +66,7 @@ module _ (d : ℕ) (good : badDegree d ≡ false) (C s i : ℕ) (next : i < C) {
     unfolding valued
     locator-at n lt =
         let place : C + n ≡ i + 1 + (length xs + n) = omega arith in
-        patch-above (i + 1) _ l (length xs) (C + n) 0 (omega arith)
+        getD-patch-above (i + 1) _ l (length xs) (C + n) 0 (omega arith)
         ∙ ap (λ (k : ℕ). getD l k 0) place ∙ slot-next d C s i next h (length xs + n) (omega arith)
         ∙ behind 0 (later (p .values)) (p .locator) n (length xs + n) (omega (arith, lengths))
 
@@ -75,7 +75,7 @@ module _ (d : ℕ) (good : badDegree d ≡ false) (C s i : ℕ) (next : i < C) {
     taken-at n = go (decLt n width)
       where
         go : Dec (n < width) → getD taken n 0 ≡ getD (p .locator) n 0
-        go (yes lt) = part-at C width new n lt ∙ locator-at n (omega arith)
+        go (yes lt) = getD-part C width new n lt ∙ locator-at n (omega arith)
         go (no ge) =
             let long : length taken ≡ width = length-part C width _ (omega (arith, valued-long)) in
             let high : width ≤ n = omega arith in
@@ -100,10 +100,10 @@ module _ (d : ℕ) (good : badDegree d ≡ false) (C s i : ℕ) (next : i < C) {
         long = length-lin (gf d) (field d good) x 0 taken ∙ ap suc (length-part C width _ (omega (arith, valued-long)))
 
         go : Dec (n < suc width) → getD (lay C (lin (gf d) x 0 taken) new) (C + n) 0 ≡ getD (lin (gf d) x 0 taken) n 0
-        go (yes lt) = lay-inside C (lin (gf d) x 0 taken) new n (omega (arith, long)) (omega (arith, long, valued-long))
+        go (yes lt) = getD-lay C (lin (gf d) x 0 taken) new n (omega (arith, long)) (omega (arith, long, valued-long))
         go (no ge) =
             let high : width ≤ n = omega arith in
-            lay-above C (lin (gf d) x 0 taken) new (C + n) (omega (arith, long))
+            getD-lay-above C (lin (gf d) x 0 taken) new (C + n) (omega (arith, long))
             ∙ locator-at n lt ∙ h .narrow n (omega (arith, mul-le-mul-right s high))
             ∙ sym (List·getD-eq-default (lin (gf d) x 0 taken) 0 (omega (arith, long)))
 
@@ -118,7 +118,7 @@ module _ (d : ℕ) (good : badDegree d ≡ false) (C s i : ℕ) (next : i < C) {
 
         go : Dec (k < length xs) → getD (located d x C width new) (i + 1 + k) 0
             ≡ getD (lifts ++ product) k 0
-        go (yes lt) = lay-below C _ new (i + 1 + k) (omega arith) ∙ value-at k lt ∙ sym (List·getD-append lifts _ 0 k (omega (arith, long)))
+        go (yes lt) = getD-lay-below C _ new (i + 1 + k) (omega arith) ∙ value-at k lt ∙ sym (List·getD-append lifts _ 0 k (omega (arith, long)))
         go (no ge) =
             let n : ℕ = k - length xs in
             let place : i + 1 + k ≡ C + n = omega arith in

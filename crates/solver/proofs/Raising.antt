@@ -17,8 +17,8 @@ use lib.ListN.{length, getD, take, drop, length-drop}
 use lib.Seq.{ext-getD, take-all, getD-take, getD-drop}
 use Rattle.patch.specs.Patch.{patch}
 use Rattle.patch.specs.Parts.{part, lay}
-use Rattle.patch.proofs.Laws.{length-patch, patch-above, patch-cong}
-use Rattle.patch.proofs.Parts.{length-part, part-at}
+use Rattle.patch.proofs.Laws.{length-patch, getD-patch-above, patch-cong}
+use Rattle.patch.proofs.Parts.{length-part, getD-part}
 use Rattle.refusal.specs.Refusal.{badDegree}
 use Rattle.field.specs.Symbols.{IsSymbol, plus, times}
 use Rattle.field.specs.Arithmetic.{gf}
@@ -56,7 +56,7 @@ part-kept : (at n b m : ℕ) (f : ℕ → ℕ) (l : List ℕ) → at + n ≤ b �
 part-kept at n b m f l behind fits =
     let size : length (part b m (patch at n f l)) ≡ m = length-part b m (patch at n f l) (rw length-patch (omega arith)) in
     ext-getD 0 _ _ (size ∙ sym (length-part b m l fits))
-    (λ k lt. part-at b m (patch at n f l) k (omega arith) ∙ patch-above at f l n (b + k) 0 (omega arith) ∙ sym (part-at b m l k (omega arith)))
+    (λ k lt. getD-part b m (patch at n f l) k (omega arith) ∙ getD-patch-above at f l n (b + k) 0 (omega arith) ∙ sym (getD-part b m l k (omega arith)))
 
 pub raised-only : (d : ℕ) → badDegree d ≡ false → (xs : List ℕ) (x p at : ℕ) (q l : List ℕ) {s t : List ℕ}
     → at + length xs + length q < 768 → 768 * p + 768 ≤ length l → q ≡ part (768 * p + at + length xs) (length q) l
@@ -97,12 +97,12 @@ between-locator d ds s p v at n later width {l} {l′} {w} lt fits room e long m
     rw add-assoc (part-slots p (at + later) width l′ (omega arith) (omega (arith, mixes .long))) in
     rw (all, count)
     (ext-getD 0 (part later width w) _ (count ∙ sym (length-part (768 * p + at + later) width l′ (omega (arith, mixes .long))))
-    (λ k h. part-at later width w k (omega arith)
+    (λ k h. getD-part later width w k (omega arith)
     ∙ sym (getD-take n w (later + k) 0 (omega arith))
     ∙ ap (λ (u : List ℕ). getD u (later + k) 0) (rw size at (copy .front))
-    ∙ part-at at n (slots p l) (later + k) (omega arith)
+    ∙ getD-part at n (slots p l) (later + k) (omega arith)
     ∙ ap₂ (λ (u : List ℕ) (i : ℕ). getD u i 0) (sym same) (sym (add-assoc at later k))
-    ∙ sym (ap (λ (u : List ℕ). getD u k 0) whole ∙ part-at (at + later) width (slots p l′) k (omega arith))))
+    ∙ sym (ap (λ (u : List ℕ). getD u k 0) whole ∙ getD-part (at + later) width (slots p l′) k (omega arith))))
 
 pub between-in : (d : ℕ) (ds : List ℕ) (s p : ℕ) (w : List ℕ) (at n : ℕ) {l l′ : List ℕ} → p < s → at + n ≤ 768
     → Each s (mixed d ds p w at) l l′ → SymbolsAt d l (768 * p + at) n → SymbolsAt d l′ (768 * p + at) n

@@ -14,7 +14,7 @@ use native.Mathlib.Omega.{arith}
 use lib.ListN.{length, getD, getElem?}
 use lib.Seq.{ext-getD}
 use Rattle.patch.specs.Parts.{part}
-use Rattle.patch.proofs.Parts.{length-part, part-at}
+use Rattle.patch.proofs.Parts.{length-part, getD-part}
 use Rattle.field.specs.Arithmetic.{gf}
 use Rattle.basis.proofs.Lines.{Line, locatorOf, cut-length, cut-at}
 use Rattle.solver.specs.Working.Slots.{slots}
@@ -47,5 +47,5 @@ locator-held d C s {leads} {space} {es} h j t lt short room =
     let long : length (part (768 * j + C) (t + 1) space) ≡ suc t = length-part (768 * j + C) (t + 1) space (omega arith) ∙ add-one t in
     ext-getD 0 _ _ (long ∙ sym (cut-length (gf d) (suc t) (e .locator)))
     (λ k below. ap (λ (l : List ℕ). getD l k 0) (part-slots j C (t + 1) space (omega arith) room)
-    ∙ part-at C (t + 1) (slots j space) k (omega arith) ∙ held .stored k (omega arith)
+    ∙ getD-part C (t + 1) (slots j space) k (omega arith) ∙ held .stored k (omega arith)
     ∙ behind 0 (e .values) (e .locator) k k (omega (arith, held .count)) ∙ sym (cut-at (gf d) (suc t) (e .locator) k (omega arith)))

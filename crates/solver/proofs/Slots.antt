@@ -16,8 +16,8 @@ use lib.ListN.{length, getD, length-take, length-drop}
 use lib.Seq.{ext-getD}
 use Rattle.patch.specs.Patch.{patch}
 use Rattle.patch.specs.Parts.{part}
-use Rattle.patch.proofs.Laws.{length-patch, patch-inside, patch-below, patch-above}
-use Rattle.patch.proofs.Parts.{length-part, part-at}
+use Rattle.patch.proofs.Laws.{length-patch, getD-patch, getD-patch-below, getD-patch-above}
+use Rattle.patch.proofs.Parts.{length-part, getD-part}
 use Rattle.solver.specs.Working.Slots.{slots, Only, Each}
 
 module _ (j : ℕ) (l : List ℕ) where
@@ -27,7 +27,7 @@ module _ (j : ℕ) (l : List ℕ) where
 
   pub slots-at : (k : ℕ) → k < 768 → getD (slots j l) k 0 ≡ getD l (768 * j + k) 0
   unfolding slots
-  slots-at = part-at (768 * j) 768 l
+  slots-at = getD-part (768 * j) 768 l
 
   slots-count : length (slots j l) ≡ min 768 (length l - 768 * j)
   unfolding slots part
@@ -39,8 +39,8 @@ part-slots j at n l within fits =
     let size : length (slots j l) ≡ 768 = slots-length j l fits in
     let long : length (part (768 * j + at) n l) ≡ n = length-part (768 * j + at) n l (omega arith) in
     ext-getD 0 _ _ (long ∙ sym (length-part at n (slots j l) (omega arith)))
-    (λ k lt. part-at (768 * j + at) n l k (omega arith) ∙ ap (λ (x : ℕ). getD l x 0) (add-assoc (768 * j) at k)
-    ∙ sym (part-at at n (slots j l) k (omega arith) ∙ slots-at j l (at + k) (omega arith)))
+    (λ k lt. getD-part (768 * j + at) n l k (omega arith) ∙ ap (λ (x : ℕ). getD l x 0) (add-assoc (768 * j) at k)
+    ∙ sym (getD-part at n (slots j l) k (omega arith) ∙ slots-at j l (at + k) (omega arith)))
 
 -- lists of one length that agree on a line have the same slots there
 same-slots : (j : ℕ) (l l′ : List ℕ) → length l′ ≡ length l → ((k : ℕ) → k < 768 → getD l′ (768 * j + k) 0 ≡ getD l (768 * j + k) 0)
@@ -66,16 +66,16 @@ module _ (j at n : ℕ) (f : ℕ → ℕ) (l : List ℕ) (within : at + n ≤ 76
 
       go : (k : ℕ) → k < 768 → length old ≡ 768 → Dec (k < at) → Dec (k < at + n) → getD (slots j new) k 0 ≡ getD (patch at n f old) k 0
       go k lt size (yes h) g =
-          slots-at j new k lt ∙ patch-below (768 * j + at) f l n (768 * j + k) 0 (omega arith)
-          ∙ sym (slots-at j l k lt) ∙ sym (patch-below at f old n k 0 h)
+          slots-at j new k lt ∙ getD-patch-below (768 * j + at) f l n (768 * j + k) 0 (omega arith)
+          ∙ sym (slots-at j l k lt) ∙ sym (getD-patch-below at f old n k 0 h)
       go k lt size (no h) (yes g) =
           let e : 768 * j + k ≡ 768 * j + at + (k - at) = omega arith in
           let e′ : k ≡ at + (k - at) = omega arith in
-          slots-at j new k lt ∙ ap (λ (x : ℕ). getD new x 0) e ∙ patch-inside (768 * j + at) f l n (k - at) 0 (omega arith) (omega arith)
-          ∙ sym (ap (λ (x : ℕ). getD (patch at n f old) x 0) e′ ∙ patch-inside at f old n (k - at) 0 (omega arith) (omega arith))
+          slots-at j new k lt ∙ ap (λ (x : ℕ). getD new x 0) e ∙ getD-patch (768 * j + at) f l n (k - at) 0 (omega arith) (omega arith)
+          ∙ sym (ap (λ (x : ℕ). getD (patch at n f old) x 0) e′ ∙ getD-patch at f old n (k - at) 0 (omega arith) (omega arith))
       go k lt size (no h) (no g) =
-          slots-at j new k lt ∙ patch-above (768 * j + at) f l n (768 * j + k) 0 (omega arith)
-          ∙ sym (slots-at j l k lt) ∙ sym (patch-above at f old n k 0 (omega arith))
+          slots-at j new k lt ∙ getD-patch-above (768 * j + at) f l n (768 * j + k) 0 (omega arith)
+          ∙ sym (slots-at j l k lt) ∙ sym (getD-patch-above at f old n k 0 (omega arith))
 
   -- any other line
   slots-others : (i : ℕ) → (i ≡ j → ⊥) → slots i (patch (768 * j + at) n f l) ≡ slots i l
@@ -83,8 +83,8 @@ module _ (j at n : ℕ) (f : ℕ → ℕ) (l : List ℕ) (within : at + n ≤ 76
       same-slots i l (patch (768 * j + at) n f l) (length-patch (768 * j + at) f l n) (λ k lt. go k lt (decLt i j))
     where
       go : (k : ℕ) → k < 768 → Dec (i < j) → getD (patch (768 * j + at) n f l) (768 * i + k) 0 ≡ getD l (768 * i + k) 0
-      go k lt (yes h) = patch-below (768 * j + at) f l n (768 * i + k) 0 (omega arith)
-      go k lt (no h) = patch-above (768 * j + at) f l n (768 * i + k) 0 (omega arith)
+      go k lt (yes h) = getD-patch-below (768 * j + at) f l n (768 * i + k) 0 (omega arith)
+      go k lt (no h) = getD-patch-above (768 * j + at) f l n (768 * i + k) 0 (omega arith)
 
   pub only-patch : {s : List ℕ} → s ≡ patch (768 * j + at) n f l → 768 * j + 768 ≤ length l → Only j (patch at n f) l s
   only-patch e fits =

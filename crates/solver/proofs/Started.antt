@@ -14,8 +14,8 @@ use native.Mathlib.Decide.{decLt, ℕ-discrete}
 use native.Mathlib.Omega.{arith}
 use lib.ListN.{length, getD, take, length-map, length-append, List·getD-append, List·getD-eq-default}
 use Rattle.patch.specs.Parts.{lay}
-use Rattle.patch.proofs.Laws.{length-patch, patch-inside, patch-below, patch-above}
-use Rattle.patch.proofs.Parts.{length-lay, lay-inside, lay-above}
+use Rattle.patch.proofs.Laws.{length-patch, getD-patch, getD-patch-below, getD-patch-above}
+use Rattle.patch.proofs.Parts.{length-lay, getD-lay, getD-lay-above}
 use Rattle.refusal.specs.Refusal.{badDegree}
 use Rattle.field.specs.Symbols.{IsSymbol}
 use Rattle.field.specs.Arithmetic.{gf}
@@ -40,7 +40,7 @@ unfolding zeroLine
 cleared-at l size k = go (decLt k 768)
   where
     go : Dec (k < 768) → getD (zeroLine l) k 0 ≡ 0
-    go (yes lt) = ap (λ (x : ℕ). getD (zeroLine l) x 0) (sym (zero-add k)) ∙ patch-inside 0 _ l 768 k 0 lt (omega arith)
+    go (yes lt) = ap (λ (x : ℕ). getD (zeroLine l) x 0) (sym (zero-add k)) ∙ getD-patch 0 _ l 768 k 0 lt (omega arith)
     go (no ge) = List·getD-eq-default (zeroLine l) 0 {n = k} (omega (arith, cleared-long l))
 
 factor : (s k : ℕ) → 0 < k * s → 0 < k
@@ -66,16 +66,16 @@ module _ (us l : List ℕ) (size : length l ≡ 768) (short : length us < 768) w
     where
       go : Dec (k < length us) → Dec (k ≡ length us) → getD (firstSlots us l) k 0 ≡ getD (us ++ 1 ∷ []) k 0
       go (yes h) e =
-          patch-below (length us) _ (lay 0 us (zeroLine l)) 1 k 0 h
+          getD-patch-below (length us) _ (lay 0 us (zeroLine l)) 1 k 0 h
           ∙ ap (λ (x : ℕ). getD (lay 0 us (zeroLine l)) x 0) (sym (zero-add k))
-          ∙ lay-inside 0 us (zeroLine l) k h (omega (arith, cleared-long l)) ∙ sym (List·getD-append us (1 ∷ []) 0 k h)
+          ∙ getD-lay 0 us (zeroLine l) k h (omega (arith, cleared-long l)) ∙ sym (List·getD-append us (1 ∷ []) 0 k h)
       go (no h) (yes e) =
           ap (λ (x : ℕ). getD (firstSlots us l) x 0) (e ∙ sym (add-zero (length us)))
-          ∙ patch-inside (length us) _ (lay 0 us (zeroLine l)) 1 0 0 (omega arith) (omega (arith, below-long))
+          ∙ getD-patch (length us) _ (lay 0 us (zeroLine l)) 1 0 0 (omega arith) (omega (arith, below-long))
           ∙ sym (behind 0 us (1 ∷ []) 0 k (omega arith))
       go (no h) (no e) =
-          patch-above (length us) _ (lay 0 us (zeroLine l)) 1 k 0 (omega arith)
-          ∙ lay-above 0 us (zeroLine l) k (omega arith) ∙ cleared-at l size k
+          getD-patch-above (length us) _ (lay 0 us (zeroLine l)) 1 k 0 (omega arith)
+          ∙ getD-lay-above 0 us (zeroLine l) k (omega arith) ∙ cleared-at l size k
           ∙ sym (behind 0 us (1 ∷ []) (k - length us) k (omega arith) ∙ single 1 (k - length us) (omega arith))
 
   held-first : (d s : ℕ) → badDegree d ≡ false → 0 < s → All (IsSymbol d) us
@@ -99,17 +99,17 @@ module _ (at n : ℕ) (vs l : List ℕ) (size : length l ≡ 768) (short : lengt
       where
         go : Dec (k < at) → Dec (k < at + n) → Dec (k < length vs) → getD (rowSlots at n l) k 0 ≡ getD (vs ++ 0 ∷ []) k 0
         go (yes h) g v =
-            patch-below at _ (zeroLine l) n k 0 h ∙ cleared-at l size k
+            getD-patch-below at _ (zeroLine l) n k 0 h ∙ cleared-at l size k
             ∙ sym (List·getD-append vs (0 ∷ []) 0 k (omega arith) ∙ run k .before h)
         go (no h) (yes g) v =
             ap (λ (x : ℕ). getD (rowSlots at n l) x 0) (omega arith)
-            ∙ patch-inside at _ (zeroLine l) n (k - at) 0 (omega arith) (omega (arith, cleared-long l))
+            ∙ getD-patch at _ (zeroLine l) n (k - at) 0 (omega arith) (omega (arith, cleared-long l))
             ∙ sym (List·getD-append vs (0 ∷ []) 0 k (omega arith) ∙ run k .inside (omega arith) g)
         go (no h) (no g) (yes v) =
-            patch-above at _ (zeroLine l) n k 0 (omega arith) ∙ cleared-at l size k
+            getD-patch-above at _ (zeroLine l) n k 0 (omega arith) ∙ cleared-at l size k
             ∙ sym (List·getD-append vs (0 ∷ []) 0 k v ∙ run k .behind (omega arith))
         go (no h) (no g) (no v) =
-            patch-above at _ (zeroLine l) n k 0 (omega arith) ∙ cleared-at l size k
+            getD-patch-above at _ (zeroLine l) n k 0 (omega arith) ∙ cleared-at l size k
             ∙ sym (behind 0 vs (0 ∷ []) (k - length vs) k (omega arith) ∙ nothing (k - length vs))
 
     held-row : (d s j : ℕ) → badDegree d ≡ false → suc j < s → All (IsSymbol d) vs

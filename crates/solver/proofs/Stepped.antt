@@ -13,7 +13,7 @@ use native.Mathlib.Omega.{arith}
 use lib.ListN.{length, drop, length-drop, getD, set, length-set, length-map, List·getD-eq-default}
 use lib.Seq.{getD-set-same, getD-set-other}
 use Rattle.patch.specs.Parts.{part}
-use Rattle.patch.proofs.Parts.{length-part, part-at}
+use Rattle.patch.proofs.Parts.{length-part, getD-part}
 use Rattle.refusal.specs.Refusal.{badDegree}
 use Rattle.field.specs.Symbols.{over}
 use Rattle.field.specs.Arithmetic.{gf}
@@ -89,7 +89,7 @@ module _ (d : ℕ) (points : List ℕ) (s i : ℕ) (next : i < length points) (s
         copied-at k = go (decLt k (C + width - (i + 1)))
           where
             go : Dec (k < C + width - (i + 1)) → getD w k 0 ≡ getD (after p) k 0
-            go (yes below) = part-at (i + 1) _ (slots r space) k below ∙ slot-next d C s i next (h .each r lt) k (omega arith)
+            go (yes below) = getD-part (i + 1) _ (slots r space) k below ∙ slot-next d C s i next (h .each r lt) k (omega arith)
             go (no above) =
                 List·getD-eq-default w 0 {n = k} (omega (arith, w-length)) ∙ sym (beyond d C s i next (h .each r lt) width k low (omega arith))
 

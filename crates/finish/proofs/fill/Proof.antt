@@ -5,7 +5,7 @@ use Prim.Native.Nat.{_≤_}
 use native.Mathlib.Omega.{arith}
 use lib.ListN.{length, replicate}
 use lib.Seq.{length-take-le}
-use Rattle.patch.proofs.Parts.{laid-front}
+use Rattle.patch.proofs.Parts.{take-lay}
 use Rattle.codes.specs.Lost.{right}
 use Rattle.finish.proofs.Marks.{right-most}
 use Rattle.finish.proofs.Filled.{flags-count}
@@ -56,8 +56,8 @@ fill-wrong-requires c κs = let p = c .before .before .before .before .before .b
         (
           p .1 .1,
           (
-            laid-front (right (a .flags .now) (a .points .now)) (replicate 96 0) (c .before .before .before .before .before .before .before .gather .ensures .1) (sym (c .before .before .before .before .before .before .before .gather .ensures .0)) (omega (arith, good (c .before .before .before .before .before .before .before .before .before .before .before .before .before .before .before), c .before .before .before .before .before .before .before .gather .ensures .0)),
-            laid-front (right (a .marks .now) (a .points .now)) (replicate 96 0) (c .before .before .before .before .gather2 .ensures .1) (sym (c .before .before .before .before .gather2 .ensures .0)) (omega (arith, wrong (c .before .before .before .before .before .before .before .before .before .before .before .before .before .before .before), c .before .before .before .before .gather2 .ensures .0)),
+            take-lay (right (a .flags .now) (a .points .now)) (replicate 96 0) (c .before .before .before .before .before .before .before .gather .ensures .1) (sym (c .before .before .before .before .before .before .before .gather .ensures .0)) (omega (arith, good (c .before .before .before .before .before .before .before .before .before .before .before .before .before .before .before), c .before .before .before .before .before .before .before .gather .ensures .0)),
+            take-lay (right (a .marks .now) (a .points .now)) (replicate 96 0) (c .before .before .before .before .gather2 .ensures .1) (sym (c .before .before .before .before .gather2 .ensures .0)) (omega (arith, wrong (c .before .before .before .before .before .before .before .before .before .before .before .before .before .before .before), c .before .before .before .before .gather2 .ensures .0)),
           ),
         ),
       ),

@@ -8,7 +8,7 @@ use native.Mathlib.Omega.{arith}
 use lib.ListN.{length, take, replicate}
 use lib.Seq.{length-take-le, length-front, take-at}
 use Rattle.patch.specs.Parts.{lay}
-use Rattle.patch.proofs.Parts.{laid-front, length-lay}
+use Rattle.patch.proofs.Parts.{take-lay, length-lay}
 use Rattle.codes.specs.Code.{Code, codeOf, rows, columns}
 use Rattle.codes.specs.Lost.{lostFlags, core, coreOf}
 use Rattle.codes.proofs.Parts.{all-map}
@@ -73,7 +73,7 @@ module _ (c : tie.After-gather) where
   held = rw (gone flagged) at (c .gather .ensures .1)
 
   points : take (c .gather .result) (c .gather .last .1 .1 .0) ≡ core (code flagged) (L flagged) .points
-  points = laid-front (core (code flagged) (L flagged) .points) (replicate 96 0) held (sym left)
+  points = take-lay (core (code flagged) (L flagged) .points) (replicate 96 0) held (sym left)
       (omega (arith, left, core-few (code flagged) (L flagged), few flagged))
 
   held-long : length (c .gather .last .1 .1 .0) ≡ 96
@@ -100,7 +100,7 @@ module _ (c : tie.After-gather-rows) where
   kept = rw (gone at, lost-length (n at) (L at)) at (c .gather-rows .ensures)
 
   symbols : take (rows (code at) * gathered .gather .result) (c .gather-rows .last .1 .1 .1 .0) ≡ coreOf (code at) (L at) (y at)
-  symbols = laid-front (coreOf (code at) (L at) (y at)) (replicate 384 0) kept
+  symbols = take-lay (coreOf (code at) (L at) (y at)) (replicate 384 0) kept
       (core-array (code at) (L at) (ready at .received) .count ∙ sym count) (omega (arith, few-cells))
 
   kept-long : length (c .gather-rows .last .1 .1 .1 .0) ≡ 384

@@ -7,7 +7,7 @@ use native.Mathlib.Omega.{arith}
 use lib.ListN.{length, take, replicate}
 use lib.Seq.{length-take-le}
 use Rattle.patch.specs.Parts.{lay}
-use Rattle.patch.proofs.Parts.{laid-front, length-lay}
+use Rattle.patch.proofs.Parts.{take-lay, length-lay}
 use Rattle.codes.specs.Code.{Code, codeOf}
 use Rattle.codes.specs.Lost.{lostFlags}
 use Rattle.codes.proofs.Lost.{lost-length}
@@ -71,7 +71,7 @@ module _ (c : tie.After-fill-flagged) where
   long = ap length filled-own ∙ length-lay 0 _ (replicate 384 0)
 
   answer : take (length (y merged-at)) own ≡ filled (code merged-at) (y merged-at) (toFill (marks merged-at))
-  answer = laid-front (filled (code merged-at) (y merged-at) (toFill (marks merged-at))) (replicate 384 0) filled-own
+  answer = take-lay (filled (code merged-at) (y merged-at) (toFill (marks merged-at))) (replicate 384 0) filled-own
       (answer-size merged-at) (omega (arith, cells merged-at))
 
   answer-long : length (take (length (y merged-at)) own) ≡ length (y merged-at)

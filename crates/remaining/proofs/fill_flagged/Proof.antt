@@ -6,7 +6,7 @@ use Prim.Native.Nat.{ℕ, _≤_}
 use native.Mathlib.Omega.{arith}
 use lib.ListN.{length, take, replicate}
 use Rattle.patch.specs.Parts.{lay}
-use Rattle.patch.proofs.Parts.{laid-front, length-lay}
+use Rattle.patch.proofs.Parts.{take-lay, length-lay}
 use Rattle.finish.specs.Working.{zerosIn}
 use Rattle.finish.proofs.Marks.{zeros-count}
 use Rattle.remaining.specs.Working.{toFill}
@@ -16,7 +16,7 @@ use Rattle.remaining.proofs.fill_flagged.Tie as tie
 
 -- flags worked out at the front of 96
 front : (n : ℕ) (ms : List ℕ) {s : List ℕ} → length ms ≡ n → n ≤ 96 → s ≡ lay 0 (zerosIn ms) (replicate 96 0) → take n s ≡ zerosIn ms
-front n ms e h is = laid-front (zerosIn ms) (replicate 96 0) is (zeros-count ms ∙ e) (omega arith)
+front n ms e h is = take-lay (zerosIn ms) (replicate 96 0) is (zeros-count ms ∙ e) (omega arith)
 
 whole : (n : ℕ) (ms : List ℕ) {s : List ℕ} → s ≡ lay 0 (zerosIn ms) (replicate 96 0) → length s ≡ 96
 whole n ms is = ap length is ∙ length-lay 0 (zerosIn ms) (replicate 96 0)

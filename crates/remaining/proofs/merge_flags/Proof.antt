@@ -6,7 +6,7 @@ use Prim.Native.Nat.{ℕ, _<_}
 use native.Mathlib.Omega.{arith}
 use lib.ListN.{length, take, replicate, length-replicate}
 use lib.Seq.{length-take-le}
-use Rattle.patch.proofs.Parts.{laid-front, length-lay}
+use Rattle.patch.proofs.Parts.{take-lay, length-lay}
 use Rattle.codes.specs.Lost.{lostFlags}
 use Rattle.codes.proofs.Parts.{all-map}
 use Rattle.codes.proofs.Lost.{lost-length}
@@ -72,7 +72,7 @@ returns c =
     let fits : length (put (gone d) (start d .args .wrong .now) (replicate (length (gone d)) 2)) ≡ n d =
     put-count (gone d) (start d .args .wrong .now) (replicate (length (gone d)) 2) ∙ length-replicate (length (gone d)) 2
     ∙ lost-length (n d) (start d .args .lost .now) in
-    (ap length whole ∙ length-lay 0 _ (replicate 96 0), laid-front _ (replicate 96 0) whole fits (omega (arith, start d .pre .0)))
+    (ap length whole ∙ length-lay 0 _ (replicate 96 0), take-lay _ (replicate 96 0) whole fits (omega (arith, start d .pre .0)))
 
 pub merge-flags-spec : {M : Type 1} → statement M
 merge-flags-spec =

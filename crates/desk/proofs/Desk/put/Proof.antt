@@ -2,7 +2,7 @@
 -- Assumes nothing.
 use mathlib.Core.Path.{_≡_, refl, sym, ap, _∙_}
 use native.Mathlib.Omega.{arith}
-use Rattle.patch.proofs.Parts.{laid-front}
+use Rattle.patch.proofs.Parts.{take-lay}
 use Rattle.refusal.specs.Refusal.{first}
 use Rattle.mark.specs.declared.Outcome.the-variants.{Done}
 use Rattle.desk.specs.Desk.{placed, putChecks, put}
@@ -27,7 +27,7 @@ returns-2 : tie.Need-returns-2
 returns-2 c = let at = c .before .before .before .before in
     let s = start at .args in
     let few = sound (start at .pre) .frame .most-rows in
-    let copy = laid-front (s .symbols .now) _ (c .before .before .store .ensures) (can at .count) (omega arith) in
+    let copy = take-lay (s .symbols .now) _ (c .before .before .store .ensures) (can at .count) (omega arith) in
     let next = c .place .ensures ∙ ap (placed (s .self) (s .column)) copy in
     let kept = hands (putChecks (s .self) (s .column) (s .symbols .now)) (placed (s .self) (s .column) (s .symbols .now)) (s .self)
     (none at) next in

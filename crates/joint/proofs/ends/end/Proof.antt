@@ -5,7 +5,7 @@ use Prim.Native.Nat.{_≤_}
 use native.Mathlib.Omega.{arith}
 use lib.ListN.{length, take, replicate}
 use lib.Seq.{length-take-le}
-use Rattle.patch.proofs.Parts.{laid-front}
+use Rattle.patch.proofs.Parts.{take-lay}
 use Rattle.codes.specs.Code.{Code, codeOf}
 use Rattle.ending.specs.Endings.{Ends, Corrects}
 use Rattle.ending.proofs.Model.{Outcome}
@@ -30,10 +30,10 @@ module _ (c : tie.After-conditions) where
   few = omega (arith, c .conditions .ensures .0, most-points (start .args .points .now) (start .args .degree) (start .args .lengths .now) (start .pre .0 .counts))
 
   points : take (c .conditions .result) (c .conditions .last .1 .1 .1 .1 .1 .1 .0) ≡ reducedPoints (start .args .points .now) (start .args .lengths .now)
-  points = laid-front (reducedPoints (start .args .points .now) (start .args .lengths .now)) (replicate 384 0) (c .conditions .ensures .2) (sym (c .conditions .ensures .0)) (omega (arith, few))
+  points = take-lay (reducedPoints (start .args .points .now) (start .args .lengths .now)) (replicate 384 0) (c .conditions .ensures .2) (sym (c .conditions .ensures .0)) (omega (arith, few))
 
   values : take (c .conditions .result) (c .conditions .last .1 .1 .1 .1 .1 .0) ≡ reducedValues (start .args .degree) (start .args .points .now) (start .args .lengths .now) (start .args .received .now)
-  values = laid-front (reducedValues (start .args .degree) (start .args .points .now) (start .args .lengths .now) (start .args .received .now)) (replicate 384 0) (c .conditions .ensures .1)
+  values = take-lay (reducedValues (start .args .degree) (start .args .points .now) (start .args .lengths .now) (start .args .received .now)) (replicate 384 0) (c .conditions .ensures .1)
       (length-values (start .args .degree) (start .pre .0 .proper .field) (start .args .points .now) (start .args .lengths .now) (start .args .received .now) (start .pre .0 .received .count) ∙ sym (c .conditions .ensures .0)) (omega (arith, few))
 
 slice-aggregate-conditions : tie.Need-slice-aggregate-conditions
@@ -71,7 +71,7 @@ returns c = λ lent.
     let p = c .before .before .before .before .before .before .before .before .before .before .before .before .before .before .before .before .before .before .before .before .before .before .pre in
     let a = c .before .before .before .before .before .before .before .before .before .before .before .before .before .before .before .before .before .before .before .before .before .before .args in
     let zeros = all-reduced (a .degree) (p .0 .proper .field) (a .points .now) (a .lengths .now) (a .received .now) (rw (values (c .before .before .before .before .before .before .before .before .before .before .before .before .before)) at (c .before .before .before .before .before .before .before .before .before .all-zero .ensures .0 (c .before .before .before .before .before .before .before .before .if1 .taken))) in
-    let array = laid-front (a .received .now) (a .array .now) (c .before .before .before .before .before .before .store .ensures) (p .0 .received .count) (omega (arith, p .0 .counts .cells, p .1 .1 .1)) in
+    let array = take-lay (a .received .now) (a .array .now) (c .before .before .before .before .before .before .store .ensures) (p .0 .received .count) (omega (arith, p .0 .counts .cells, p .1 .1 .1)) in
     let flags = zeros-front (length (a .points .now)) (a .flags .now) (c .before .before .clear .ensures) (omega (arith, p .0 .counts .most-columns, p .1 .1 .2)) in
     subst (Corrects (code (c .before .before .before .before .before .before .before .before .before .before .before .before .before .before .before .before .before .before .before .before .before .before)) (a .received .now) (a .limit) 0) (ap₂ buffers (sym array) (sym flags)) (code-ends (p .0 .proper) (p .0 .received) zeros (a .limit) lent)
 
