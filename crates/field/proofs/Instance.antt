@@ -21,7 +21,7 @@ use Rattle.field.specs.Arithmetic.{gf}
 use Rattle.field.proofs.Laws.{Field}
 use Rattle.field.proofs.Sums.{plus-comm, plus-assoc, zero-plus, plus-self, plus-below}
 use Rattle.field.proofs.Products.{Tested, times-plus, times-comm, times-assoc, times-below, one-times}
-use Rattle.field.proofs.Powers.{Generated, over-times, over-zero, over-below}
+use Rattle.field.proofs.Powers.{Generated, over-times, over-below}
 
 tested-2 : Tested 2
 unfolding timesX timesLow times plus modulus
@@ -69,7 +69,6 @@ field-of d 𝓖 = record {
   times-plus = times-plus d;
   one-times = one-times d (𝓖 .tested);
   over-times = over-times d 𝓖;
-  over-zero = over-zero d;
   one-zero = λ (e : _≡_ {A = ℕ} 1 0). omega arith;
   zero-in = pow-pos d;
   one-in = ltb→lt 1 (2 ^ d) (𝓖 .two);

@@ -14,7 +14,6 @@ pub record Field {K : Type 0} (A : Arithmetic K) : Type 0 where
   pub times-plus : (a b c : K) → A .times a (A .plus b c) ≡ A .plus (A .times a b) (A .times a c)
   pub one-times : (a : K) → A .In a → A .times (A .one) a ≡ a
   pub over-times : (a b : K) → A .In a → A .In b → (b ≡ A .zero → ⊥) → A .times (A .over a b) b ≡ a
-  pub over-zero : (a : K) → A .over a (A .zero) ≡ A .zero
   pub one-zero : A .one ≡ A .zero → ⊥
   pub zero-in : A .In (A .zero)
   pub one-in : A .In (A .one)

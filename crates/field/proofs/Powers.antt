@@ -88,15 +88,7 @@ module _ (d a b : ℕ) where
 
 pub over-below : (d a b : ℕ) → over d a b < 2 ^ d
 unfolding over
-over-below d a b = go (eqb b 0)
-  where
-    go : (t : Bool) → cond t 0 (quotientBelow (2 ^ d) d a b) < 2 ^ d
-    go true = pow-pos d
-    go false = within d a b (2 ^ d) (2 ^ d) (pow-pos d) (omega arith)
-
-pub over-zero : (d a : ℕ) → over d a 0 ≡ 0
-unfolding over
-over-zero d a = refl
+over-below d a b = within d a b (2 ^ d) (2 ^ d) (pow-pos d) (omega arith)
 
 -- ---- of a degree that passes the tests
 
@@ -178,9 +170,8 @@ module _ (d : ℕ) (𝓖 : Generated d) where
   unfolding over
   over-times a b ha hb n =
       let c : (c : ℕ) × (times d c b ≡ 1) = inverse b hb n in
-      rw (ne-eqb b 0 n)
-      (found d a b (2 ^ d) (times d a (c .0)) (times-below d (𝓖 .tested) a (c .0))
-      (times-assoc d (𝓖 .tested) a (c .0) b ∙ ap (times d a) (c .1) ∙ times-comm d (𝓖 .tested) a 1 ∙ one-times d (𝓖 .tested) a ha))
+      found d a b (2 ^ d) (times d a (c .0)) (times-below d (𝓖 .tested) a (c .0))
+      (times-assoc d (𝓖 .tested) a (c .0) b ∙ ap (times d a) (c .1) ∙ times-comm d (𝓖 .tested) a 1 ∙ one-times d (𝓖 .tested) a ha)
 
   cancel : (a c b : ℕ) → a < 2 ^ d → c < 2 ^ d → b < 2 ^ d → (b ≡ 0 → ⊥) → times d a b ≡ times d c b → a ≡ c
   cancel a c b ha hc hb n e =

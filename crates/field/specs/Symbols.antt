@@ -5,8 +5,9 @@
 --   modulus d        the reducing polynomial, bit i for x^i: the one place where the three stand
 --   timesX d c       x times c
 --   times d a b      the product
---   over d a b       the quotient
+--   Quotient d a b c    c is the quotient of a by b; over d a b, where b is not zero
 use Prim.Native.Nat.{ℕ, zero, suc, _-_, _*_, _/_, _%_, _^_, _<_}
+use mathlib.Core.Path.{_≡_}
 use mathlib.Core.Bool.{cond}
 use lib.Bits.{bitXor}
 use lib.Dec.{eqb}
@@ -36,11 +37,16 @@ timesLow d (suc n) a b = plus (a % 2 * b) (timesX d (timesLow d n (a / 2) b))
 unfoldable pub times : ℕ → ℕ → ℕ → ℕ
 times d a b = timesLow d d a (b % 2 ^ d)
 
+-- 02, 2026-02: the quotient of a by b, which is not zero, is the symbol c with c·b = a
+pub record Quotient (d a b c : ℕ) : Type 0 where
+  pub symbol : IsSymbol d c
+  pub undoes : times d c b ≡ a
+
 -- the largest c below n with c·b = a, or 0 where there is none
 unfoldable pub quotientBelow : ℕ → ℕ → ℕ → ℕ → ℕ
 quotientBelow zero d a b = 0
 quotientBelow (suc n) d a b = cond (eqb (times d n b) a) n (quotientBelow n d a b)
 
--- 'The quotient of anything by zero is given as 0.' Otherwise it is the one symbol c with c·b = a.
+-- that symbol, found by search; what it is where b is zero is said by no promise
 unfoldable pub over : ℕ → ℕ → ℕ → ℕ
-over d a b = cond (eqb b 0) 0 (quotientBelow (2 ^ d) d a b)
+over d a b = quotientBelow (2 ^ d) d a b

@@ -4,7 +4,7 @@ pub mod tables;
 ghost use mathlib.Core.Path.{_≡_};
 ghost use Rattle.refusal.specs.Refusal.{first};
 ghost use Rattle.field.specs.Symbols.{plus, times, over};
-ghost use Rattle.field.specs.Values.{checks, Gives};
+ghost use Rattle.field.specs.Values.{checks, quotientChecks, Gives};
 
 // What an arithmetic call answers: the symbol, or the number of the refusal.
 pub enum Value {
@@ -51,16 +51,16 @@ pub fn product(degree: u32, a: u8, b: u8) -> Value
     Value::Symbol(tables::product_from(&table, degree, a, b))
 }
 
-// The quotient of two symbols, 0 where the second is zero; refusals 1 and 7.
+// The quotient of two symbols; refusals 1, 7 and 25, a zero divisor.
 pub fn quotient(degree: u32, a: u8, b: u8) -> Value
-    ensures { λ r. ⌜ Gives (checks degree a b) (over degree a b) r ⌝ }
+    ensures { λ r. ⌜ Gives (quotientChecks degree a b) (over degree a b) r ⌝ }
 {
-    let k = first_refusal(degree, a, b);
-    if k != 0 {
-        return Value::Refused(k);
+    let number = first_refusal(degree, a, b);
+    if number != 0 {
+        return Value::Refused(number);
     }
     if b == 0 {
-        return Value::Symbol(0);
+        return Value::Refused(25);
     }
     let table = tables::lend(degree);
     Value::Symbol(tables::quotient_from(&table, degree, a, b))
