@@ -17,9 +17,8 @@ ghost use Rattle.codes.specs.Code.{codeOf, largest};
 ghost use Rattle.codes.proofs.Proper.{Within};
 ghost use Rattle.ending.specs.Working.{Ready, mostCells};
 ghost use Rattle.conditions.specs.Working.{reducedPoints, reducedValues};
+use array_checks::wide;
 use field::tables::Table;
-use mark::checks;
-use mark::checks::wide;
 
 // For the crates above: how many conditions each row has.
 pub fn row_counts(lengths: &[u8], points: &[u8], counts: &mut [usize])
@@ -119,7 +118,7 @@ pub fn conditions(
         × (now (xs .exit) ≡ lay 0 (reducedPoints (now (points .entry)) (now (lengths .entry))) (now (xs .entry))) ⌝ }
 {
     let mut ws = [0u8; 9216];
-    let k = checks::largest(lengths);
+    let k = array_checks::largest(lengths);
     rows::lent::all_inverses(table, degree, points, k, &mut ws);
     rows_conditions(table, degree, lengths, points, &ws, received, us, xs)
 }

@@ -9,11 +9,11 @@ use crate::Desk;
 pub fn open_refusal(degree: u32, points: &[u8], lengths: &[u8]) -> u8
     ensures { λ r. ⌜ r ≡ first (openChecks (codeOf degree (now (points .entry)) (now (lengths .entry)))) ⌝ }
 {
-    let k = mark::checks::code_refusal(16, degree, lengths, points);
+    let k = array_checks::code_refusal(16, degree, lengths, points);
     if k != 0 {
         return k;
     }
-    mark::checks::points_refusal(degree, points)
+    array_checks::points_refusal(degree, points)
 }
 
 // The first check of putting a column that applies, 0 where none does.

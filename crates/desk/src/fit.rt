@@ -3,9 +3,8 @@ ghost use mathlib.Core.List.{[], _∷_};
 ghost use Rattle.codes.specs.Code.{codeOf};
 ghost use Rattle.desk.specs.Verdict.{Misfits};
 ghost use Rattle.desk.specs.Working.{ArrayGiven, FewGiven, RowsGiven};
+use array_checks::wide;
 use field::tables::Table;
-use mark::checks;
-use mark::checks::wide;
 
 // 1 where the row is not values of a polynomial with at most k coefficients, 0 where it is: k rounds of divided differences
 // leave something, or nothing, but zeros; ws are the inverses of the rounds.
@@ -55,7 +54,7 @@ pub fn misfits(table: &Table, degree: u32, points: &[u8], lengths: &[u8], array:
     ensures { λ r. ⌜ Misfits degree (now (points .entry)) (now (lengths .entry)) (now (array .entry)) r ⌝ }
 {
     let mut ws = [0u8; 1536];
-    let k = checks::largest(lengths);
+    let k = array_checks::largest(lengths);
     rows::lent::all_inverses(table, degree, points, k, &mut ws);
     rows_misfits(table, degree, points, lengths, &ws, array)
 }

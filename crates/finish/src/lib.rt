@@ -18,10 +18,9 @@ ghost use Rattle.ending.specs.Endings.{Buffers};
 ghost use Rattle.ending.proofs.WrongColumns.{rootCount};
 ghost use Rattle.ending.proofs.Model.{filled, divided};
 ghost use Rattle.finish.specs.Working.{released, flagOf, zerosIn, put, refilled, fronts};
+use array_checks::wide;
 use ending::Ending;
 use field::tables::Table;
-use mark::checks;
-use mark::checks::wide;
 
 // The flag of a value: 1 if it is zero.
 fn flag_of(value: u8) -> u8
@@ -172,7 +171,7 @@ fn fill_wrong(
     ensures { λ _. ⌜ now (s .exit) ≡ lay 0 (filled (codeOf degree (now (points .entry)) (now (lengths .entry))) (now (received .entry)) (now (flags .entry))) (now (s .entry)) ⌝ }
 {
     let mut ws = [0u8; 9216];
-    let k = checks::largest(lengths);
+    let k = array_checks::largest(lengths);
     rows::lent::all_inverses(table, degree, &good[..k], k, &mut ws);
     fill_rows(
         table,

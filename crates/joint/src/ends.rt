@@ -142,7 +142,7 @@ pub(crate) fn end(
     let mut us = [0u8; 384];
     let mut xs = [0u8; 384];
     let n = conditions::conditions(table, degree, lengths, points, received, &mut us, &mut xs);
-    if mark::reading::all_zero(&us[..n]) {
+    if rows::all_zero(&us[..n]) {
         rows::store(received, array, 0);
         rows::clear(flags, 0, points.len());
         return Ending::Corrected(0);

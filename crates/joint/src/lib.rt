@@ -12,9 +12,9 @@ ghost use Rattle.joint.specs.Promises.{Decodes, buffers, given, left};
 ghost use Rattle.joint.specs.Lost.{DecodesLost, LostEnds};
 ghost use Rattle.finish.specs.Working.{released};
 ghost use Rattle.joint.specs.Working.{Blank, ReadyLost, RestEnds};
+use array_checks::SPACE;
 use ending::Ending;
 use field::tables;
-use mark::checks::SPACE;
 
 // Releases the answer and its flags to the buffers lent, on `corrected` alone.
 fn release(ending: Ending, own: &[u8], wrong: &[u8], answer: &mut [u8], flags: &mut [u8])
@@ -93,7 +93,7 @@ pub fn decode(
         (given (codeOf degree (now (points .entry)) (now (lengths .entry))) limit (now (received .entry)) (buffers (now (answer .entry)) (now (flags .entry))) (now (space .entry)))
         (left r (buffers (now (answer .exit)) (now (flags .exit))) (now (space .exit))) ⌝ }
 {
-    let k = mark::checks::decode_refusal(
+    let k = array_checks::decode_refusal(
         degree,
         lengths,
         points,
@@ -222,7 +222,7 @@ pub fn decode_lost(
         (given (codeOf degree (now (points .entry)) (now (lengths .entry))) limit (now (received .entry)) (buffers (now (answer .entry)) (now (flags .entry))) (now (space .entry)))
         (left r (buffers (now (answer .exit)) (now (flags .exit))) (now (space .exit))) ⌝ }
 {
-    let k = mark::checks::lost_refusal(
+    let k = array_checks::lost_refusal(
         degree,
         lengths,
         points,

@@ -4,11 +4,9 @@
 --   Place c l p q k     row l is at these places, and has k coefficients
 --   first-place, next-place    of the first row; of the next
 --   bounds              a row lies within the message and the array
---   sizes-of            what the checks of a code leave of its lengths and points
 --   Laid c l p q at rest whole s₀ s    row by row the whole is laid at the front of s₀: s is so far, and the rest comes from at on
 --   laid-first, laid-next, laid-last    before the first row; a row; the whole
 --   made                what is lent to those that make rows
---   take-copied         what was copied to the front is there
 --   copied-lay          what was laid at the front, copied over a whole list
 --   encoded-more        a row's values, laid before the rows that are left
 --   message-more, reduced-more    the same of the message that is read, and of the reduced values
@@ -21,7 +19,7 @@ use native.Mathlib.Nat.{suc-mul}
 use native.Mathlib.Numerals.{add-one}
 use native.Mathlib.Omega.{arith}
 use lib.ListN.{length, getD, take, drop, length-drop, replicate}
-use lib.Seq.{drop-cons, drop-drop, length-take-le, take-append-seam, take-length, drop-length}
+use lib.Seq.{drop-cons, drop-drop, length-take-le, take-length, drop-length}
 use Rattle.patch.specs.Parts.{lay}
 use Rattle.patch.proofs.Parts.{lay-none, take-lay, lay-behind}
 use Rattle.refusal.proofs.Laws.{each-within}
@@ -39,7 +37,7 @@ use Rattle.codes.proofs.Parts.{all-drop}
 use Rattle.codes.proofs.Proper.{Proper, lengths-test}
 use Rattle.codes.proofs.Passed.{Counts}
 use Rattle.codes.proofs.Messages.{messageRows, ReducedRows, length-encoded, length-message}
-use Rattle.mark.specs.Working.{Sizes, Made}
+use Rattle.mark.specs.Working.{Made}
 
 -- the rows before row l have p coefficients and q symbols
 pub record Before (c : Code) (l p q : ℕ) : Type 0 where
@@ -64,9 +62,6 @@ pub record Bounds (c : Code) (p q k : ℕ) : Type 0 where
   pub array : q + columns c ≤ rows c * columns c
   pub coefficients : total (c .lengths) ≤ 384
   pub symbols : rows c * columns c ≤ 384
-
-pub sizes-of : {c : Code} → Counts c → Sizes (c .lengths) (c .points)
-sizes-of h = record { most-rows = h .most-rows; most-columns = h .most-columns; lengths = h .lengths }
 
 module _ {c : Code} {l p q k : ℕ} (h : Place c l p q k) where
   -- of the lengths from l on, the first and the others
@@ -120,9 +115,6 @@ module _ {c : Code} {l p q at : ℕ} {rest whole s₀ s : List ℕ} (h : Laid c 
 
 pub made : {c : Code} {t : List ℕ} → Counts c → Proper c → IsTable (c .degree) t → Made t c (replicate 384 0)
 made h p table = record { counts = h; proper = p; table = table; room = refl }
-
-pub take-copied : (v l : List ℕ) {s : List ℕ} → s ≡ take (length v) v ++ drop (length v) l → take (length v) s ≡ v
-take-copied v l e = rw (e, take-length) (take-append-seam v (drop (length v) l))
 
 -- what was laid at the front, copied over the whole of a list that is as long
 pub copied-lay : (v l old : List ℕ) {s out : List ℕ} → s ≡ lay 0 v l → length v ≡ length old → length v ≤ length l

@@ -1,6 +1,5 @@
 -- What the functions inside ask, and what they leave. No promise cites these.
 --
---   Sizes ks xs             at most 4 lengths and 96 points, and the lengths are from 1 to the number of points
 --   Made t c s              a code whose checks passed, the table of its field, and an array s of our own, where rows are made
 --   Writing t c m s         so it is, and m is a message
 --   Reading t c a s         so it is, and a is an array; ReadingRows t c ws a s, and ws are the inverses of the longest row's rounds
@@ -26,13 +25,8 @@ use Rattle.poly.specs.Poly.{All, Zero}
 use Rattle.poly.proofs.Forms.{reduce, fromNewton}
 use Rattle.rows.specs.Working.Rows.{Points, Inverses}
 use Rattle.codes.specs.Code.{Code, CodeArray, IsArray, IsMessage, encoded, largest}
-use Rattle.codes.proofs.Proper.{Proper, Within}
+use Rattle.codes.proofs.Proper.{Proper}
 use Rattle.codes.proofs.Passed.{Counts}
-
-pub record Sizes (ks xs : List ℕ) : Type 0 where
-  pub most-rows : length ks ≤ 4
-  pub most-columns : length xs ≤ 96
-  pub lengths : Within 1 (length xs) ks
 
 pub record Made (t : List ℕ) (c : Code) (s : List ℕ) : Type 0 where
   pub counts : Counts c

@@ -4,7 +4,6 @@ ghost use Rattle.patch.specs.Parts.{lay};
 ghost use Rattle.codes.specs.Code.{codeOf, encoded};
 ghost use Rattle.codes.proofs.Passed.{PassedEncoding};
 ghost use Rattle.mark.specs.Working.{Writing};
-use crate::checks;
 use field::tables;
 use field::tables::Table;
 
@@ -25,7 +24,7 @@ fn write_rows(
     let mut at = 0;
     let mut l = 0;
     while l < lengths.len() {
-        let k = checks::wide(lengths[l]);
+        let k = array_checks::wide(lengths[l]);
         rows::values(table, degree, points, &message[from..from + k], s, at);
         from += k;
         at += points.len();

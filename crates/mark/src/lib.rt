@@ -1,5 +1,4 @@
 // Interleaved Reed-Solomon arrays: encoding and reading.
-pub mod checks;
 mod encoding;
 pub mod reading;
 
@@ -23,7 +22,7 @@ pub fn encode(
     ensures { λ r. ⌜ Encodes (codeOf degree (now (points .entry)) (now (lengths .entry))) (now (message .entry)) (now (array .entry))
         (left r (now (array .exit))) ⌝ }
 {
-    let k = checks::encode_refusal(degree, lengths, points, message, array.len());
+    let k = array_checks::encode_refusal(degree, lengths, points, message, array.len());
     if k != 0 {
         return Outcome::Refused(k);
     }
@@ -36,7 +35,7 @@ pub fn read(degree: u32, lengths: &[u8], points: &[u8], array: &[u8], message: &
     ensures { λ r. ⌜ Reads (codeOf degree (now (points .entry)) (now (lengths .entry))) (now (array .entry)) (now (message .entry))
         (left r (now (message .exit))) ⌝ }
 {
-    let k = checks::read_refusal(degree, lengths, points, array, message.len());
+    let k = array_checks::read_refusal(degree, lengths, points, array, message.len());
     if k != 0 {
         return Outcome::Refused(k);
     }

@@ -1,30 +1,10 @@
 // Reading, for a call that passed its checks.
-ghost use mathlib.Core.Path.{_≡_};
-ghost use mathlib.Core.Bool.{true};
-ghost use mathlib.Core.Logic.{_↔_};
-ghost use Prim.Native.Nat.{ℕ};
-ghost use Rattle.poly.specs.Poly.{All};
 ghost use Rattle.codes.specs.Code.{codeOf};
 ghost use Rattle.codes.proofs.Passed.{PassedReading};
 ghost use Rattle.mark.specs.Working.{ArrayRead, MessageWritten, RowRead, RowReduced};
 ghost use Rattle.mark.specs.Working.{Reading, ReadingRow, ReadingRows, ReducingRow};
-use crate::checks;
 use field::tables;
 use field::tables::Table;
-
-// For the crates above: whether all symbols are zero.
-pub fn all_zero(s: &[u8]) -> bool
-    ensures { λ r. ⌜ (r ≡ true) ↔ All (λ (a : ℕ). a ≡ 0) (now (s .entry)) ⌝ }
-{
-    let mut i = 0;
-    while i < s.len() {
-        if s[i] != 0 {
-            return false;
-        }
-        i += 1;
-    }
-    true
-}
 
 // For the crates above: k rounds of divided differences of the row, at the front of s, and whether the values behind its first k
 // are all zero; ws are the inverses of the rounds. Up to 15 symbols behind the row change too.
@@ -42,7 +22,7 @@ pub fn reduce_row(
 {
     rows::store(row, s, 0);
     rows::lent::reduce(table, degree, points, k, ws, s);
-    all_zero(&s[k..row.len()])
+    rows::all_zero(&s[k..row.len()])
 }
 
 // The polynomial of a row's first k divided differences, in s from `at` on, and whether the reduced values are all zero; ws
@@ -85,7 +65,7 @@ fn read_rows(
     let mut at = 0;
     let mut l = 0;
     while l < lengths.len() {
-        let k = checks::wide(lengths[l]);
+        let k = array_checks::wide(lengths[l]);
         if !read_row(
             table,
             degree,
@@ -119,7 +99,7 @@ fn read_array(
         (now (s .entry)) (now (s .exit)) r ⌝ }
 {
     let mut ws = [0u8; 9216];
-    let k = checks::largest(lengths);
+    let k = array_checks::largest(lengths);
     rows::lent::all_inverses(table, degree, points, k, &mut ws);
     read_rows(table, degree, lengths, points, &ws, array, s)
 }

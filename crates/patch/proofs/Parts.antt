@@ -13,6 +13,7 @@
 --   patch-lay                 a patch inside a row is a patch of the row
 --   lay-append, lay-behind    two rows laid one behind the other are the two in one
 --   lay-rest                  a row laid at the front of what lies from a place on
+--   take-copied               what was copied to the front is there
 -- Assumes nothing.
 use mathlib.Core.Path.{_≡_, refl, sym, ap, _∙_}
 use mathlib.Core.List.{List, [], _∷_, _++_}
@@ -21,7 +22,7 @@ use native.Mathlib.Nat.{add-assoc, add-zero, zero-add}
 use native.Mathlib.Decide.{ℕ-discrete, decLt}
 use native.Mathlib.Omega.{arith}
 use lib.ListN.{length, getD, take, drop, set, length-set, length-append, length-drop, List·getD-append, List·getD-eq-default}
-use lib.Seq.{ext-getD, getD-take, getD-drop, getD-set-same, getD-set-other, length-take-le, getD-append-add}
+use lib.Seq.{ext-getD, getD-take, getD-drop, getD-set-same, getD-set-other, length-take-le, getD-append-add, take-append-seam, take-length}
 use Rattle.patch.specs.Patch.{patch}
 use Rattle.patch.specs.Parts.{part, lay}
 use Rattle.patch.proofs.Laws.{length-patch, getD-patch, getD-patch-below, getD-patch-above, patch-cong}
@@ -238,3 +239,6 @@ take-lay v l is size fits = rw (is, ← size) (part-lay 0 v l (omega arith))
 pub lay-behind : (at : ℕ) (v w l : List ℕ) {n : ℕ} {s : List ℕ} → length v ≡ n → s ≡ lay at v l → at + length (v ++ w) ≤ length l
     → lay (at + n) w s ≡ lay at (v ++ w) l
 lay-behind at v w l e is fits = rw (← e, is) (lay-append at v w l fits)
+
+pub take-copied : (v l : List ℕ) {s : List ℕ} → s ≡ take (length v) v ++ drop (length v) l → take (length v) s ≡ v
+take-copied v l e = rw (e, take-length) (take-append-seam v (drop (length v) l))

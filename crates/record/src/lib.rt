@@ -7,9 +7,9 @@ ghost use Rattle.refusal.specs.Meaning.{detailOf};
 ghost use Rattle.record.specs.Records.{AtMost, wanted};
 ghost use Rattle.record.specs.Promises.{Answers, meaning, recordIn};
 ghost use Rattle.record.specs.Working.{Decodable, Decoded};
+use array_checks::SPACE;
+use array_checks::wide;
 use ending::Ending;
-use mark::checks::SPACE;
-use mark::checks::wide;
 
 // The answer to what is left of the input: nothing is left; a line, after which reading stops; a line, after which it goes on.
 // The number is the line's length.

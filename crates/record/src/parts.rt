@@ -4,7 +4,7 @@ ghost use Prim.Native.Nat.{_≤_};
 ghost use lib.ListN.{length};
 ghost use Rattle.record.specs.Records.{AtMost, noMark, outOfRange, sizeIn, stopOf};
 ghost use Rattle.record.specs.Working.{Headed};
-use mark::checks::wide;
+use array_checks::wide;
 
 // The two bytes that a record begins with, 42 4D.
 pub const MARK: [u8; 2] = *b"BM";

@@ -11,8 +11,8 @@ ghost use Rattle.ending.specs.Working.{Ready, mostCells};
 ghost use Rattle.ending.proofs.Model.{filled};
 ghost use Rattle.finish.specs.Working.{zerosIn};
 ghost use Rattle.remaining.specs.Working.{merged, toFill};
+use array_checks::wide;
 use field::tables;
-use mark::checks::wide;
 
 // For the crates above: the flags of 96 columns, 1 where the column is lost.
 pub fn lost_flags(lost: &[u8]) -> [u8; 96]

@@ -25,7 +25,7 @@ use Rattle.field.proofs.Instance.{field}
 use Rattle.poly.specs.Poly.{All, valuesAt}
 use Rattle.poly.proofs.Forms.{reduce, fromNewton}
 use Rattle.poly.proofs.Values.{length-values}
-use Rattle.mark.proofs.Held.{reduced-front}
+use Rattle.rows.proofs.Reduced.{reduced-front}
 use Rattle.hermitian.specs.Ring.{numbers, sector, IsRing, column, ringOf, ArrayOf}
 use Rattle.hermitian.specs.Checks.{badSize}
 use Rattle.ring.specs.Working.{sectorOf, sectorsOf, SectorGiven, SectorsGiven}

@@ -50,7 +50,7 @@ fn total(q: u32, m: u32) -> usize
     ensures { λ r. ⌜ r ≡ total (ringLengths q m) ⌝ }
 {
     let ks = shape::lengths(q, m);
-    mark::checks::total(&ks[..shape::side(q)])
+    array_checks::total(&ks[..shape::side(q)])
 }
 
 // The first of the checks 16, 17 and 8 that applies to lost sectors of H(m), 0 where none does.
@@ -61,7 +61,7 @@ fn remaining_refusal(q: u32, m: u32, limit: u32, lost: &[u8]) -> u8
     let n = shape::side(q);
     let ks = shape::lengths(q, m);
     let xs = shape::columns(q);
-    mark::checks::remaining_refusal(&ks[..n], &xs[..n * n], limit, lost)
+    array_checks::remaining_refusal(&ks[..n], &xs[..n * n], limit, lost)
 }
 
 // The first of the checks 10, 11, 5 and 7 that applies to a message and a word of these lengths, of which the symbols are the
@@ -124,7 +124,7 @@ pub(crate) fn lost_refusal(
     if (received.len() != right)
         | (answer != right)
         | (flags != sectors)
-        | (space < mark::checks::SPACE)
+        | (space < array_checks::SPACE)
     {
         return 5;
     }

@@ -3,3 +3,4 @@ pub mod Rounds
 pub mod Sharing
 pub mod Evaluation
 pub mod Newton
+pub mod Reduced

@@ -1,8 +1,9 @@
 // Routines on a row of symbols that lies in a slice from a place on, over any points: divided differences, and from Newton's
 // form the polynomial and its values. They know nothing of columns.
 ghost use mathlib.Core.Path.{_≡_};
-ghost use mathlib.Core.Bool.{false};
-ghost use Prim.Native.Nat.{_+_, _-_, _^_, _≤_, _<_};
+ghost use mathlib.Core.Bool.{true, false};
+ghost use mathlib.Core.Logic.{_↔_};
+ghost use Prim.Native.Nat.{ℕ, _+_, _-_, _^_, _≤_, _<_};
 ghost use lib.ListN.{length};
 ghost use Rattle.patch.specs.Patch.{patch};
 ghost use Rattle.patch.specs.Parts.{part, lay};
@@ -30,6 +31,20 @@ pub fn clear(s: &mut [u8], at: usize, n: usize)
         s[at + i] = 0;
         i += 1;
     }
+}
+
+// For the crates above: whether all symbols are zero.
+pub fn all_zero(s: &[u8]) -> bool
+    ensures { λ r. ⌜ (r ≡ true) ↔ All (λ (a : ℕ). a ≡ 0) (now (s .entry)) ⌝ }
+{
+    let mut i = 0;
+    while i < s.len() {
+        if s[i] != 0 {
+            return false;
+        }
+        i += 1;
+    }
+    true
 }
 
 // Adds c to n symbols of s from `at` on.

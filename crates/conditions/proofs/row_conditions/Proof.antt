@@ -8,7 +8,7 @@ use lib.ListN.{length, drop, replicate, length-drop}
 use lib.Seq.{take-all}
 use Rattle.patch.specs.Parts.{lay}
 use Rattle.rows.proofs.Symbols.{symbols-held}
-use Rattle.mark.proofs.ReducedRows.{held-rest}
+use Rattle.rows.proofs.Reduced.{held-rest}
 use borrow.Author.Needs.{needs}
 use Rattle.conditions.proofs.row_conditions.Statement.{statement}
 use Rattle.conditions.proofs.row_conditions.Tie as tie

@@ -10,7 +10,7 @@ use Rattle.codes.specs.Code.{codeOf}
 use Rattle.ending.specs.Endings.{Buffers, Ends}
 use Rattle.joint.specs.Promises.{buffers}
 use Rattle.finish.specs.Working.{fronts, released}
-use Rattle.mark.proofs.Rows.{take-copied}
+use Rattle.patch.proofs.Parts.{take-copied}
 use Rattle.joint.proofs.Blank.{blank-of}
 use borrow.Author.Needs.{needs}
 use Rattle.joint.proofs.work.Statement.{statement}

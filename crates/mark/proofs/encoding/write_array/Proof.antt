@@ -8,7 +8,8 @@ use lib.ListN.{length, take, replicate}
 use lib.Seq.{length-take-le}
 use Rattle.codes.specs.Code.{Code, codeOf, encoded}
 use Rattle.codes.proofs.Messages.{encoded-array}
-use Rattle.mark.proofs.Rows.{take-copied, copied-lay, made}
+use Rattle.patch.proofs.Parts.{take-copied}
+use Rattle.mark.proofs.Rows.{copied-lay, made}
 use borrow.Author.Needs.{needs}
 use Rattle.mark.proofs.encoding.write_array.Statement.{statement}
 use Rattle.mark.proofs.encoding.write_array.Tie as tie

@@ -9,7 +9,7 @@ use lib.Seq.{length-take-le}
 use Rattle.patch.specs.Parts.{lay}
 use Rattle.field.proofs.Instance.{field}
 use Rattle.rows.proofs.Symbols.{symbols-zeros}
-use Rattle.mark.proofs.ReducedRows.{reduced-newton}
+use Rattle.rows.proofs.Reduced.{reduced-newton}
 use borrow.Author.Needs.{needs}
 use Rattle.mark.proofs.reading.read_row.Statement.{statement}
 use Rattle.mark.proofs.reading.read_row.Tie as tie

@@ -2,7 +2,7 @@
 -- Assumes nothing.
 use native.Mathlib.Omega.{arith}
 use Rattle.rows.proofs.Symbols.{symbols-over}
-use Rattle.mark.proofs.ReducedRows.{held-front, reduced-rest}
+use Rattle.rows.proofs.Reduced.{held-front, reduced-rest}
 use borrow.Author.Needs.{needs}
 use Rattle.mark.proofs.reading.reduce_row.Statement.{statement}
 use Rattle.mark.proofs.reading.reduce_row.Tie as tie

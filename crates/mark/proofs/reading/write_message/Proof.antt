@@ -9,7 +9,8 @@ use lib.ListN.{length, take, replicate}
 use lib.Seq.{length-take-le}
 use Rattle.codes.specs.Code.{Code, codeOf}
 use Rattle.mark.specs.Working.{ArrayRead}
-use Rattle.mark.proofs.Rows.{take-copied, copied-lay, made}
+use Rattle.patch.proofs.Parts.{take-copied}
+use Rattle.mark.proofs.Rows.{copied-lay, made}
 use borrow.Author.Needs.{needs}
 use Rattle.mark.proofs.reading.write_message.Statement.{statement}
 use Rattle.mark.proofs.reading.write_message.Tie as tie

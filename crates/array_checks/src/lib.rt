@@ -1,0 +1,257 @@
+// The checks of the calls on interleaved arrays, in order.
+ghost use mathlib.Core.Path.{_≡_};
+ghost use mathlib.Core.Bool.{false};
+ghost use mathlib.Core.List.{List, [], _∷_, _++_};
+ghost use Prim.Native.Nat.{ℕ, _*_, _≤_};
+ghost use lib.ListN.{length};
+ghost use Rattle.refusal.specs.Refusal.{_when_, badPoints, first, someOutside, someOutsideField};
+ghost use Rattle.codes.specs.Code.{codeOf, jointLimit, largest, total};
+ghost use Rattle.codes.specs.Checks.{arrayChecks, bufferChecks, codeChecks, decodeChecks, shapeChecks};
+ghost use Rattle.codes.specs.Checks.{encodeChecks, lostChecks, readChecks, remainingChecks};
+ghost use Rattle.array_checks.specs.Working.{Sizes};
+
+// For the crates above: the bytes of the working space that a decoding takes.
+pub const SPACE: usize = 49152;
+
+// For the crates above: a byte as a count.
+pub fn wide(x: u8) -> usize
+    ensures { λ r. ⌜ r ≡ x ⌝ }
+{
+    x as usize
+}
+
+// For the crates above: the sum of the message lengths.
+pub fn total(lengths: &[u8]) -> usize
+    requires { ⌜ length (now lengths) ≤ 4 ⌝ }
+    ensures { λ r. ⌜ r ≡ total (now (lengths .entry)) ⌝ }
+{
+    let mut sum = 0;
+    let mut i = 0;
+    while i < lengths.len() {
+        sum += wide(lengths[i]);
+        i += 1;
+    }
+    sum
+}
+
+// For the crates above: the largest of the message lengths.
+pub fn largest(lengths: &[u8]) -> usize
+    ensures { λ r. ⌜ r ≡ largest (now (lengths .entry)) ⌝ }
+{
+    let mut most = 0;
+    let mut i = 0;
+    while i < lengths.len() {
+        let k = wide(lengths[i]);
+        if most < k {
+            most = k;
+        }
+        i += 1;
+    }
+    most
+}
+
+// The number of symbols of an array.
+fn cells(lengths: &[u8], points: &[u8]) -> usize
+    requires { ⌜ Sizes (now lengths) (now points) ⌝ }
+    ensures { λ r. ⌜ r ≡ length (now (lengths .entry)) * length (now (points .entry)) ⌝ }
+{
+    lengths.len() * points.len()
+}
+
+// The joint limit, of whatever degree the code is.
+fn joint_limit(lengths: &[u8], points: &[u8]) -> usize
+    requires { ⌜ Sizes (now lengths) (now points) ⌝ }
+    ensures { λ r. ⌜ ((d : ℕ) → r ≡ jointLimit (codeOf d (now (points .entry)) (now (lengths .entry)))) ⌝ }
+{
+    let spare = (cells(lengths, points) - total(lengths)) / (lengths.len() + 1);
+    let short = points.len() - largest(lengths);
+    if spare < short { spare } else { short }
+}
+
+// For the crates above: the first of the checks 1 to 4 that applies, where so many points are the most; 0 where none does.
+pub fn code_refusal(most: usize, degree: u32, lengths: &[u8], points: &[u8]) -> u8
+    ensures { λ r. ⌜ r ≡ first (shapeChecks most (codeOf degree (now (points .entry)) (now (lengths .entry)))) ⌝ }
+{
+    if refusal::bad_degree(degree) {
+        return 1;
+    }
+    if refusal::outside(1, 4, lengths.len()) {
+        return 2;
+    }
+    if refusal::outside(1, most, points.len()) {
+        return 3;
+    }
+    if refusal::some_outside(1, points.len(), lengths) {
+        return 4;
+    }
+    0
+}
+
+// For the crates above: 6 where check 6 applies, 0 where it does not.
+pub fn points_refusal(degree: u32, points: &[u8]) -> u8
+    ensures { λ r. ⌜ r ≡ first ((6 when badPoints degree (now (points .entry))) ∷ []) ⌝ }
+{
+    if refusal::bad_points(degree, points) {
+        6
+    } else {
+        0
+    }
+}
+
+// For the crates above: 7 where check 7 applies, 0 where it does not.
+pub fn symbols_refusal(degree: u32, symbols: &[u8]) -> u8
+    ensures { λ r. ⌜ r ≡ first ((7 when someOutsideField degree (now (symbols .entry))) ∷ []) ⌝ }
+{
+    if refusal::some_outside_field(degree, symbols) {
+        7
+    } else {
+        0
+    }
+}
+
+// The first of the checks 1 to 7 that applies to a message and an array of these lengths, of which the symbols are the
+// input; 0 where none does.
+fn buffers_refusal(
+    degree: u32,
+    lengths: &[u8],
+    points: &[u8],
+    message: usize,
+    array: usize,
+    symbols: &[u8],
+) -> u8
+    ensures { λ r. ⌜ ((m a : List ℕ) → length m ≡ message → length a ≡ array
+        → r ≡ first (codeChecks (codeOf degree (now (points .entry)) (now (lengths .entry)))
+        ++ bufferChecks (codeOf degree (now (points .entry)) (now (lengths .entry))) m a (now (symbols .entry)))) ⌝ }
+{
+    let k = code_refusal(96, degree, lengths, points);
+    if k != 0 {
+        return k;
+    }
+    if (message != total(lengths)) | (array != cells(lengths, points)) {
+        return 5;
+    }
+    let k = points_refusal(degree, points);
+    if k != 0 {
+        return k;
+    }
+    symbols_refusal(degree, symbols)
+}
+
+// For the crates above: the first check of encoding that applies, 0 where none does. Of the array's buffer the checks read
+// the length alone, its room.
+pub fn encode_refusal(degree: u32, lengths: &[u8], points: &[u8], message: &[u8], room: usize) -> u8
+    ensures { λ r. ⌜ ((a : List ℕ) → length a ≡ room
+        → r ≡ first (encodeChecks (codeOf degree (now (points .entry)) (now (lengths .entry))) (now (message .entry)) a)) ⌝ }
+{
+    buffers_refusal(degree, lengths, points, message.len(), room, message)
+}
+
+// For the crates above: the first of the checks 1 to 7 of reading that applies, 0 where none does. Of the message's buffer
+// the checks read the length alone, its room.
+pub fn read_refusal(degree: u32, lengths: &[u8], points: &[u8], array: &[u8], room: usize) -> u8
+    ensures { λ r. ⌜ ((m : List ℕ) → length m ≡ room
+        → r ≡ first (readChecks (codeOf degree (now (points .entry)) (now (lengths .entry))) (now (array .entry)) m)) ⌝ }
+{
+    buffers_refusal(degree, lengths, points, room, array.len(), array)
+}
+
+// The first of the checks 1 to 7 of decoding that applies, 0 where none does. Of the buffers for the answer, the flags and the
+// working space the checks read the lengths alone.
+fn array_refusal(
+    degree: u32,
+    lengths: &[u8],
+    points: &[u8],
+    received: &[u8],
+    answer: usize,
+    flags: usize,
+    space: usize,
+) -> u8
+    ensures { λ r. ⌜ ((a f w : List ℕ) → length a ≡ answer → length f ≡ flags → length w ≡ space
+        → r ≡ first (arrayChecks (codeOf degree (now (points .entry)) (now (lengths .entry))) (now (received .entry)) a f w)) ⌝ }
+{
+    let k = code_refusal(96, degree, lengths, points);
+    if k != 0 {
+        return k;
+    }
+    let right = cells(lengths, points);
+    if (received.len() != right) | (answer != right) | (flags != points.len()) | (space < SPACE) {
+        return 5;
+    }
+    let k = points_refusal(degree, points);
+    if k != 0 {
+        return k;
+    }
+    symbols_refusal(degree, received)
+}
+
+// For the crates above: the first check of decoding that applies, 0 where none does. Of the buffers for the answer, the
+// flags and the working space the checks read the lengths alone.
+pub fn decode_refusal(
+    degree: u32,
+    lengths: &[u8],
+    points: &[u8],
+    limit: u32,
+    received: &[u8],
+    answer: usize,
+    flags: usize,
+    space: usize,
+) -> u8
+    ensures { λ r. ⌜ ((a f w : List ℕ) → length a ≡ answer → length f ≡ flags → length w ≡ space
+        → r ≡ first (decodeChecks (codeOf degree (now (points .entry)) (now (lengths .entry)))
+        limit (now (received .entry)) a f w)) ⌝ }
+{
+    let k = array_refusal(degree, lengths, points, received, answer, flags, space);
+    if k != 0 {
+        return k;
+    }
+    if joint_limit(lengths, points) < limit as usize {
+        return 8;
+    }
+    0
+}
+
+// For the crates above: the first of the checks 16, 17 and 8 that applies to lost columns of a code, of whatever degree; 0
+// where none does.
+pub fn remaining_refusal(lengths: &[u8], points: &[u8], limit: u32, lost: &[u8]) -> u8
+    requires { ⌜ length (now lengths) ≤ 4 ⌝ }
+    requires { ⌜ (1 ≤ length (now points)) × (length (now points) ≤ 96) ⌝ }
+    requires { ⌜ someOutside 1 (length (now points)) (now lengths) ≡ false ⌝ }
+    ensures { λ r. ⌜ ((d : ℕ)
+        → r ≡ first (remainingChecks (codeOf d (now (points .entry)) (now (lengths .entry))) limit (now (lost .entry)))) ⌝ }
+{
+    if refusal::bad_columns(points.len(), lost) {
+        return 16;
+    }
+    let left = points.len() - lost.len();
+    if left < largest(lengths) {
+        return 17;
+    }
+    if joint_limit(lengths, &points[..left]) < limit as usize {
+        return 8;
+    }
+    0
+}
+
+// For the crates above: the first check of decoding with lost columns that applies, 0 where none does. Of the buffers for the
+// answer, the flags and the working space the checks read the lengths alone.
+pub fn lost_refusal(
+    degree: u32,
+    lengths: &[u8],
+    points: &[u8],
+    limit: u32,
+    lost: &[u8],
+    received: &[u8],
+    answer: usize,
+    flags: usize,
+    space: usize,
+) -> u8
+    ensures { λ r. ⌜ ((a f w : List ℕ) → length a ≡ answer → length f ≡ flags → length w ≡ space
+        → r ≡ first (lostChecks (codeOf degree (now (points .entry)) (now (lengths .entry)))
+        limit (now (lost .entry)) (now (received .entry)) a f w)) ⌝ }
+{
+    let k = array_refusal(degree, lengths, points, received, answer, flags, space);
+    if k != 0 {
+        return k;
+    }
+    remaining_refusal(lengths, points, limit, lost)
+}
