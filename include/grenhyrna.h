@@ -4,20 +4,20 @@
  * it needs no set-up. Link libfirmware.a (x86-64); of its host it needs memcpy and memset alone, and less than 26 KB of stack (read
  * off the compiled code, and not proved).
  *
- * A code is a field GF(2^degree), columns distinct points (one a column), and rows message lengths k (one a row), each from 1 to
- * the number of columns. K is the sum of the lengths. A message is K coefficients, lowest first, row after row. An array is
+ * A code is a field GF(2^degree), columns distinct points (one a column), and rows message lengths k (one a row), each at least 1
+ * and below the number of columns, so that every row has check symbols. K is the sum of the lengths. A message is K coefficients, lowest first, row after row. An array is
  * rows · columns symbols, row after row; a code array's row l holds the values at the points of a polynomial with at most k_l
  * coefficients. A symbol is one byte below 2^degree, bit i standing for x^i: sums are exclusive or, and products are reduced by
  * x^2+x+1 (degree 2), x^4+x+1 (degree 4) and x^8+x^5+x^3+x^2+1 (degree 8, the field of ISO/IEC 16022).
  *
  * A ring over GF(q²), q = 2 or 4, is q³ symbols in the order of its points, q a sector, q² sectors; H(m) has the q message lengths
- * (m − j(q+1))/q rounded down, plus 1.
+ * (m − j(q+1))/q rounded down, plus 1; m is 3 to 5 for q = 2 and 15 to 59 for q = 4.
  *
  * Buffers may not overlap, and a length is the number of bytes behind its pointer. A buffer of no bytes still needs a pointer that
  * is not null.
  *
- * ENCODING AND READING answer GREN_DONE (256) with the result written, or the number of the refusal (1 to 11) with the result
- * buffer as it was.
+ * ENCODING AND READING answer GREN_DONE (256) with the result written, or the number of the refusal (1 to 11, 18) with the
+ * result buffer as it was.
  *
  * DECODING answers 256 · code + detail:
  *
@@ -86,9 +86,9 @@ static inline uint32_t gren_detail(uint32_t answer)
 /* A column's flag after "corrected". */
 enum { GREN_RIGHT = 0, GREN_WRONG = 1, GREN_LOST = 2 };
 
-/* The numbers of the refusals: the first that applies, in the order of checking, is the answer. Marks check 1 to 7, then reading 9
- * and decoding 8; rings check 10, 11, 5, 7, then reading 9 and decoding 8. With lost columns 16 and 17 come after 7 and before 8;
- * 4, 5, 6 and 7 read all columns, lost or not, and 8 the remaining ones. */
+/* The numbers of the refusals: the first that applies, in the order of checking, is the answer. Marks check 1, 2, 3, 4, 18, 5, 6, 7,
+ * then reading 9 and decoding 8; rings check 10, 11, 18, 5, 7, then reading 9 and decoding 8. With lost columns 16 and 17 come after
+ * 7 and before 8; 4, 18, 5, 6 and 7 read all columns, lost or not, and 8 the remaining ones. */
 enum {
     GREN_BAD_DEGREE = 1,     /* degree is not 2, 4 or 8 */
     GREN_BAD_ROWS = 2,       /* count of the lengths is not 1 to 4 */
@@ -103,7 +103,8 @@ enum {
     GREN_BAD_Q = 10,         /* q is not 2 or 4 */
     GREN_BAD_M = 11,         /* m is not q²−1 to q³−1 */
     GREN_BAD_LOST = 16,      /* a lost column is not below the number of columns or is named twice */
-    GREN_TOO_MANY_LOST = 17  /* fewer remaining columns than the largest k */
+    GREN_TOO_MANY_LOST = 17, /* fewer remaining columns than the largest k */
+    GREN_NO_CHECKS = 18      /* some k equals the number of columns; of a ring, of sectors */
 };
 
 /* Writes the code array of a message. */

@@ -110,7 +110,7 @@ static int decoded(int with_list, uint32_t r)
     uint32_t code = gren_code(r), detail = gren_detail(r);
     int ok = code <= GREN_HOLLOW && inside(RESULT) && inside(FLAGS) && only_read();
     if (code == GREN_REFUSED)
-        ok &= ((detail >= 1 && detail <= 11 && detail != 9) || (with_list && (detail == 16 || detail == 17))) && as_lent(SPACE);
+        ok &= ((detail >= 1 && detail <= 11 && detail != 9) || detail == 18 || (with_list && (detail == 16 || detail == 17))) && as_lent(SPACE);
     else
         ok &= space_cleared();
     if (code == GREN_CORRECTED)
@@ -124,7 +124,7 @@ static int decoded(int with_list, uint32_t r)
 
 static int coded(uint32_t r)
 {
-    int ok = (r == GREN_DONE || (r >= 1 && r <= 11 && r != 8)) && only_read();
+    int ok = (r == GREN_DONE || (r >= 1 && r <= 11 && r != 8) || r == 18) && only_read();
     ok &= r == GREN_DONE ? inside(RESULT) : as_lent(RESULT);
     if (ok && r == GREN_DONE)
         done++;

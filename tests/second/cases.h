@@ -72,6 +72,8 @@ static void read_argument(void)
         frame[6] = (uint8_t)numbers(frame + LENGTHS, MOST_LENGTHS);
     else if (word("points "))
         frame[7] = (uint8_t)numbers(frame + POINTS, MOST_POINTS);
+    else if (word("lost "))
+        frame[LOST_COUNT] = (uint8_t)numbers(frame + LOST, MOST_LOST);
     else if (word("symbols "))
         set_number(8, numbers(frame + SYMBOLS, MOST_SYMBOLS));
     else if (word("result "))
@@ -86,7 +88,8 @@ static void read_argument(void)
 
 static void read_call(void)
 {
-    static const char *const calls[] = {"encode:", "read:", "decode:", "ring encode:", "ring read:", "ring decode:", NULL};
+    static const char *const calls[] = {"encode:",      "read:",            "decode:",      "ring encode:", "ring read:",
+                                        "ring decode:", "ring decode lost:", "decode lost:", NULL};
     memset(frame, 0, sizeof frame);
     while (calls[frame[0]] && !word(calls[frame[0]]))
         frame[0]++;

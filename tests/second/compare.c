@@ -102,7 +102,7 @@ static uint32_t random_code(size_t *rows, size_t *columns, int small)
     uint32_t degree = degrees[below(3)];
     size_t most = degree == 2 ? 4 : degree == 4 ? 16 : small ? 20 : 96;
     *rows = 1 + below(4);
-    *columns = 1 + below((unsigned)most);
+    *columns = chance(60) ? 1 : 2 + below((unsigned)most - 1);
     if (small && *columns > 12 && !chance(4))
         *columns = 4 + below(9);
     if (small && degree == 8 && chance(200)) { /* the second program takes its time over these */
@@ -111,7 +111,7 @@ static uint32_t random_code(size_t *rows, size_t *columns, int small)
     }
     fill(&lengths, *rows, 256);
     for (size_t l = 0; l < *rows; l++)
-        own(&lengths, 0)[l] = (uint8_t)(1 + below(chance(2) ? (unsigned)*columns : ((unsigned)*columns + 2) / 3));
+        own(&lengths, 0)[l] = (uint8_t)(1 + below(chance(2) && *columns > 1 ? (unsigned)*columns - 1 : ((unsigned)*columns + 2) / 3));
     fill(&points, *columns, 1u << degree);
     for (size_t i = 0; i < *columns; i++) {
         uint8_t x;
@@ -130,6 +130,11 @@ static uint32_t random_code(size_t *rows, size_t *columns, int small)
     case 3: own(&lengths, 0)[below((unsigned)*rows)] = chance(2) ? 0 : (uint8_t)(*columns + 1); break;
     case 4: own(&points, 0)[below((unsigned)*columns)] = (uint8_t)next(); break;
     case 5: own(&points, 0)[*columns - 1] = own(&points, 0)[0]; break;
+    case 6: own(&lengths, 0)[below((unsigned)*rows)] = (uint8_t)*columns; break;
+    case 7: /* one k equal to n and one out of range, or the other way round */
+        own(&lengths, 0)[0] = (uint8_t)(chance(2) ? *columns : 0);
+        own(&lengths, 0)[*rows - 1] = (uint8_t)(chance(2) ? *columns : *columns + 1);
+        break;
     default: break;
     }
     both(&lengths);
@@ -257,7 +262,7 @@ static int compare_ring_coding(const char *what, ring_coding *library, ring_codi
 static int compare_ring(void)
 {
     uint32_t q = chance(2) ? 2 : 4, a, b;
-    uint32_t m = q * q - 1 + below(q * q * q - q * q + 1);
+    uint32_t m = q * q - 1 + below(q * q * q - q * q - q + 1);
     uint8_t ks[4];
     second_ring_lengths(q, m, ks);
     size_t symbols = q * q, size = q * q * q, total = 0;
@@ -268,6 +273,8 @@ static int compare_ring(void)
         q = below(9) + (chance(3) ? 256 : 0);
     if (chance(40))
         m = below(80);
+    if (chance(40))
+        m = q * q * q - 1 - below(q); /* a row without check symbols */
     if (chance(40))
         limit += 1 + below(300);
     fill_space();
@@ -518,7 +525,7 @@ static int compare_mark_lost(void)
 static int compare_ring_lost(void)
 {
     uint32_t q = chance(3) ? 4 : 2, size = q * q * q;
-    struct call c = {1, q, q * q - 1 + below(size - q * q + 1), 0, q, q * q, 0, 0, 0};
+    struct call c = {1, q, q * q - 1 + below(size - q * q - q + 1), 0, q, q * q, 0, 0, 0};
     uint8_t ks[4];
     second_ring_lengths(q, c.m, ks);
     size_t most = c.columns - ks[0], total = 0;
@@ -539,6 +546,8 @@ static int compare_ring_lost(void)
         c.degree = below(9) + (chance(3) ? 256 : 0);
     if (chance(40))
         c.m = below(80);
+    if (chance(40))
+        c.m = size - 1 - below(q); /* a row without check symbols */
     second.length = spoil_length(size);
     fill(&first, spoil_length(size), 256);
     fill(&flags, spoil_length(c.columns), 256);
@@ -567,10 +576,10 @@ static void make_dirt(void)
 static int print_counts(void)
 {
     static const char *const names[KINDS] = {"marks", "rings", "marks with lost columns", "rings with lost sectors"};
-    static const uint8_t checks[KINDS][12] = {{1, 2, 3, 4, 5, 6, 7, 8, 9},
-                                              {10, 11, 5, 7, 8, 9},
-                                              {1, 2, 3, 4, 5, 6, 7, 16, 17, 8},
-                                              {10, 11, 5, 7, 16, 17, 8}};
+    static const uint8_t checks[KINDS][12] = {{1, 2, 3, 4, 18, 5, 6, 7, 8, 9},
+                                              {10, 11, 18, 5, 7, 8, 9},
+                                              {1, 2, 3, 4, 18, 5, 6, 7, 16, 17, 8},
+                                              {10, 11, 18, 5, 7, 16, 17, 8}};
     int missing = 0;
     for (int kind = 0; kind < KINDS; kind++) {
         unsigned long *ends = tried.endings[kind];

@@ -90,13 +90,13 @@ static void spoil_lost(unsigned columns, unsigned rows, unsigned across, unsigne
 static void mark_call(unsigned call)
 {
     static const unsigned degrees[] = {2, 4, 8};
-    unsigned degree = degrees[below(3)], size = 1u << degree, rows = 1 + below(4), columns = 1 + below(size < 12 ? size : 12);
+    unsigned degree = degrees[below(3)], size = 1u << degree, rows = 1 + below(4), columns = chance(40) ? 1 : 2 + below(size < 12 ? size - 1 : 11);
     if (degree == 8 && call < 2 && chance(4))
         columns = 60 + below(37);
     uint8_t ks[7], xs[97], message[385], array[384];
     size_t total = 0;
     for (unsigned l = 0; l < 7; l++)
-        ks[l] = (uint8_t)(1 + below(chance(2) ? columns : (columns + 2) / 3));
+        ks[l] = (uint8_t)(chance(80) ? columns : 1 + below(chance(2) && columns > 1 ? columns - 1 : (columns + 2) / 3));
     for (unsigned l = 0; l < rows; l++)
         total += ks[l];
     for (unsigned i = 0, used[256] = {0}; i < columns; i++) {
@@ -139,7 +139,7 @@ static void mark_call(unsigned call)
 
 static void ring_call(unsigned call)
 {
-    unsigned q = chance(2) ? 2 : 4, columns = q * q, size = columns * q, m = columns - 1 + below(size - columns + 1);
+    unsigned q = chance(2) ? 2 : 4, columns = q * q, size = columns * q, m = columns - 1 + below(size - columns - q + 1);
     uint8_t ks[4], message[385], word[64];
     size_t total = 0;
     second_ring_lengths(q, m, ks);
@@ -162,7 +162,7 @@ static void ring_call(unsigned call)
     frame[0] = (uint8_t)call;
     set_number(1, chance(40) ? below(600) : q);
     set_number(3, chance(30) ? limit + 1 + below(300) : limit);
-    frame[5] = (uint8_t)(chance(30) ? below(256) : m);
+    frame[5] = (uint8_t)(chance(30) ? below(256) : chance(30) ? size - 1 - below(q) : m);
     set_lengths(0, 0, call == 3 ? total : size, call == 4 ? total : size, columns);
     if (chance(40))
         frame[SYMBOLS + below((unsigned)(call == 3 ? total : size))] = (uint8_t)next();
@@ -211,7 +211,7 @@ int main(int argc, char **argv)
     state = 0x2545F4914F6CDD1Du;
     for (unsigned i = 0; i < CALLS + LOST_CALLS; i++) {
         if (i == CALLS) /* from here each ending and each refusal comes about, of marks and of rings */
-            state = 82 * 0x9E3779B97F4A7C15u;
+            state = 167 * 0x9E3779B97F4A7C15u;
         random_call(i);
         put(to, wants_input, NULL);
     }

@@ -69,6 +69,9 @@ static unsigned open_refusal(unsigned degree, unsigned n, const unsigned *x, uns
     for (unsigned l = 0; l < r; l++)
         if (k[l] < 1 || k[l] > n)
             return 4;
+    for (unsigned l = 0; l < r; l++)
+        if (k[l] == n)
+            return 18;
     for (unsigned i = 0; i < n; i++) {
         if (x[i] >> degree)
             return 6;
@@ -264,7 +267,8 @@ static void spare(void)
 static void refused_openings(void)
 {
     unsigned x[POINTS], k[LENGTHS], bad[LENGTHS] = {1, 1, 1, 0, 1, 1, 1}, long_k[LENGTHS] = {1, 4, 1, 1, 1, 1, 1};
-    unsigned twice[] = {3, 1, 3}, outside[] = {3, 16, 1};
+    unsigned twice[] = {3, 1, 3}, outside[] = {3, 16, 1}, full[] = {1, 3}, full_and_none[] = {3, 0}, full_and_more[] = {4, 3};
+    unsigned sixteen[] = {1, 2, 3, 16};
     for (unsigned i = 0; i < POINTS; i++)
         x[i] = i;
     for (unsigned l = 0; l < LENGTHS; l++)
@@ -287,6 +291,13 @@ static void refused_openings(void)
     opens(4, 4, x, 2, long_k);
     opens(4, 3, twice, 2, long_k);
     spare();
+    opens(4, 3, x, 2, full);
+    opens(4, 3, twice, 2, full);
+    opens(4, 3, x, 2, full_and_none);
+    opens(4, 3, x, 2, full_and_more);
+    opens(2, 1, x, 1, k);
+    opens(8, 16, x, 4, sixteen);
+    spare();
     opens(4, 3, twice, 1, k);
     opens(4, 3, outside, 1, k);
     opens(8, 3, outside, 1, k);
@@ -308,10 +319,11 @@ int main(int argc, char **argv)
         perror(argv[2]);
         return 1;
     }
-    static const unsigned one[] = {1}, two[] = {1, 2}, four[] = {4, 1, 2, 3}, long_k[] = {15, 3, 8, 16}, last[] = {2, 4};
+    static const unsigned one[] = {1}, two[] = {1, 2}, four[] = {4, 1, 2, 3}, long_k[] = {15, 3, 8, 14}, last[] = {2, 3},
+                          three[] = {3, 1, 2, 3};
     code(2, 4, 2, two);
-    code(2, 4, 4, four);
-    code(2, 1, 1, one);
+    code(2, 4, 4, three);
+    code(2, 2, 1, one);
     code(4, 5, 2, two);
     code(4, 9, 4, four);
     code(4, 16, 4, long_k);

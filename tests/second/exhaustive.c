@@ -1,6 +1,6 @@
 /* Demand 3 seen to hold by a program that knows nothing of locators: all arrays over GF(4) with few columns and rows, all message
  * lengths, all sets of lost columns and all trial limits, against a search over sets of wrong columns. Then short lists of lost
- * columns, good and bad, against the checks.
+ * columns, good and bad, against the checks. A code with a row as long as the mark is refused, whatever is lost.
  *
  *   exhaustive [MOST]    arrays of up to MOST symbols (default 8: all with two rows of four)
  */
@@ -57,9 +57,9 @@ static unsigned size_of(unsigned set)
     return count;
 }
 
-/* What was tried: arrays with no lost columns and with some, and lists that end as corrected, 16, 17 and 8. */
+/* What was tried: arrays with no lost columns and with some, and lists that end as corrected, 16, 17, 8 and 18. */
 static struct {
-    unsigned long cases[2], lists[4];
+    unsigned long cases[2], lists[5];
 } tried;
 
 static size_t most_symbols = 8;
@@ -167,6 +167,8 @@ static int check_list(const uint8_t *ks, size_t r, const uint8_t *points, size_t
     }
     if (!expected && n - count < largest)
         expected = 17;
+    if (largest == n)
+        expected = 18;
     for (size_t i = 0; i < r * n; i++)
         if (lost >> (i % n) & 1)
             y[i] = (uint8_t)(1 + i % 3);
@@ -182,7 +184,7 @@ static int check_list(const uint8_t *ks, size_t r, const uint8_t *points, size_t
             ok &= answer[i] == (refused ? 0xEE : 0);
         for (size_t i = 0; i < n; i++)
             ok &= flags[i] == (refused ? 0xEE : lost >> i & 1 ? 2 : 0);
-        tried.lists[refused == 16 ? 1 : refused == 17 ? 2 : refused == 8 ? 3 : 0]++;
+        tried.lists[refused == 16 ? 1 : refused == 17 ? 2 : refused == 8 ? 3 : refused == 18 ? 4 : 0]++;
         if (!ok)
             return 0;
     }
@@ -209,7 +211,8 @@ static int check_lists(const uint8_t *ks, size_t r, const uint8_t *points, size_
 
 static int check_code(const uint8_t *ks, size_t r, const uint8_t *points, size_t n)
 {
-    for (unsigned lost = 0; lost < 1u << n; lost++) {
+    int full = ks[0] == n || (r > 1 && ks[1] == n);
+    for (unsigned lost = 0; !full && lost < 1u << n; lost++) {
         size_t left = n - size_of(lost);
         if (left >= ks[0] && (r == 1 || left >= ks[1]) && !check_arrays(ks, r, points, n, lost))
             return 0;
@@ -243,7 +246,7 @@ int main(int argc, char **argv)
         return 1;
     printf("exhaustive: %lu decodings agree with the search over sets of columns, and %lu with lost columns\n", tried.cases[0],
            tried.cases[1]);
-    printf("exhaustive: lists of lost columns: %lu corrected, refusals 16: %lu 17: %lu 8: %lu\n", tried.lists[0], tried.lists[1],
-           tried.lists[2], tried.lists[3]);
+    printf("exhaustive: lists of lost columns: %lu corrected, refusals 16: %lu 17: %lu 8: %lu 18: %lu\n", tried.lists[0],
+           tried.lists[1], tried.lists[2], tried.lists[3], tried.lists[4]);
     return 0;
 }

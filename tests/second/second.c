@@ -147,6 +147,16 @@ static int outside(uint32_t degree, const uint8_t *symbols, size_t count)
     return 0;
 }
 
+/* 'some k equals n' */
+static int no_check_symbols(const uint8_t *lengths, size_t rows, size_t columns)
+{
+    for (size_t l = 0; l < rows; l++)
+        if (lengths[l] == columns)
+            return 1;
+    return 0;
+}
+
+/* Checks 1 to 4 and 18. */
 static unsigned code_check(uint32_t degree, const uint8_t *lengths, size_t rows, size_t columns)
 {
     if (bad_degree(degree))
@@ -158,7 +168,7 @@ static unsigned code_check(uint32_t degree, const uint8_t *lengths, size_t rows,
     for (size_t l = 0; l < rows; l++)
         if (lengths[l] < 1 || lengths[l] > columns)
             return 4;
-    return 0;
+    return no_check_symbols(lengths, rows, columns) ? 18 : 0;
 }
 
 static int bad_points(uint32_t degree, const uint8_t *points, size_t columns)
@@ -173,7 +183,7 @@ static int bad_points(uint32_t degree, const uint8_t *points, size_t columns)
     return 0;
 }
 
-/* Checks 1 to 7 of a mark, where `fit` says whether the buffers' lengths are right. */
+/* Checks 1 to 7 of a mark, 18 behind 4, where `fit` says whether the buffers' lengths are right. */
 static unsigned mark_check(uint32_t degree, const uint8_t *lengths, size_t rows, const uint8_t *points, size_t columns, int fit,
                            const uint8_t *symbols, size_t count)
 {
@@ -469,7 +479,7 @@ void second_ring_lengths(unsigned q, unsigned m, uint8_t *lengths)
         lengths[j] = (uint8_t)((m - j * (q + 1)) / q + 1);
 }
 
-/* Checks 10 and 11; the message lengths are then written. */
+/* Checks 10, 11 and 18; behind 11 the message lengths are written. */
 static unsigned order_check(uint32_t q, uint32_t m, uint8_t *lengths)
 {
     if (q != 2 && q != 4)
@@ -477,10 +487,10 @@ static unsigned order_check(uint32_t q, uint32_t m, uint8_t *lengths)
     if (m < q * q - 1 || m > q * q * q - 1)
         return 11;
     second_ring_lengths(q, m, lengths);
-    return 0;
+    return no_check_symbols(lengths, q, q * q) ? 18 : 0;
 }
 
-/* Checks 10, 11, 5 and 7 of encoding and reading, of which `symbols` is the input. */
+/* Checks 10, 11, 18, 5 and 7 of encoding and reading, of which `symbols` is the input. */
 static unsigned ring_check(uint32_t q, uint32_t m, uint8_t *lengths, size_t message_length, size_t word_length,
                            const uint8_t *symbols, size_t count)
 {

@@ -68,7 +68,7 @@ fn joint_limit(lengths: &[u8], points: &[u8]) -> usize
     if spare < short { spare } else { short }
 }
 
-// For the crates above: the first of the checks 1 to 4 that applies, where so many points are the most; 0 where none does.
+// For the crates above: the first of the checks 1 to 4 and 18 that applies, where so many points are the most; 0 where none does.
 pub fn code_refusal(most: usize, degree: u32, lengths: &[u8], points: &[u8]) -> u8
     ensures { λ r. ⌜ r ≡ first (shapeChecks most (codeOf degree (now (points .entry)) (now (lengths .entry)))) ⌝ }
 {
@@ -81,8 +81,13 @@ pub fn code_refusal(most: usize, degree: u32, lengths: &[u8], points: &[u8]) -> 
     if refusal::outside(1, most, points.len()) {
         return 3;
     }
-    if refusal::some_outside(1, points.len(), lengths) {
+    let outside = refusal::some_outside(1, points.len(), lengths);
+    let unchecked = refusal::is_in(points.len(), lengths);
+    if outside {
         return 4;
+    }
+    if unchecked {
+        return 18;
     }
     0
 }

@@ -2,7 +2,7 @@
 --
 --   total-most, largest-most    lengths up to n: their sum is at most n for each, and the largest at most n
 --   up-to-largest         no length is above the largest
---   Counts c              what checks 1 to 4 leave; counted, from them and whatever checks follow; counts-of, from them alone
+--   Counts c              what the checks 1 to 4 leave; counted, from them and whatever checks follow; counts-of, from them alone
 --   PassedEncoding, PassedReading, PassedDecoding    what the checks of a call leave; encoding, reading, decoding, from them
 --   PassedArray           what 1 to 7 of decoding leave; arrays, from them; counts-of-array, of those what 1 to 4 leave
 -- Assumes nothing.
@@ -55,6 +55,7 @@ counted c ds e =
     let p₂ = clear 1 _ _ (p₁ .1) in
     let p₃ = clear 2 _ _ (p₂ .1) in
     let p₄ = clear 3 _ _ (p₃ .1) in
+    let p₁₈ = clear 17 _ _ (p₄ .1) in
     let r = within 1 4 (rows c) (p₂ .0) in
     let n = within 1 96 (columns c) (p₃ .0) in
     let k = lengths-test 1 (columns c) (c .lengths) .0 (p₄ .0) in (
@@ -68,7 +69,7 @@ counted c ds e =
         fits = total-most (columns c) (c .lengths) k;
         cells = mul-le-mul (r .1) (n .1);
       },
-      p₄ .1,
+      p₁₈ .1,
     )
 
 pub counts-of : (c : Code) {k : ℕ} → k ≡ first (codeChecks c) → k ≡ 0 → Counts c

@@ -1,6 +1,7 @@
 -- The checks of the calls on interleaved arrays, in order: 01, 'Refusal numbers, in order of checking'.
 --
---   shapeChecks most c    1 to 4, before the lengths of the buffers; n is at most `most`
+--   unchecked c           the test of number 18
+--   shapeChecks most c    1 to 4 and 18, before the lengths of the buffers; n is at most `most`
 --   codeChecks c          those of the calls on arrays
 --   encodeChecks, readChecks, decodeChecks    'Encoding checks 1 to 7, reading 1 to 7 then 9, decoding 1 to 8.'
 --   arrayChecks           1 to 7 of decoding
@@ -10,9 +11,13 @@ use mathlib.Core.List.{List, [], _∷_, _++_}
 use Prim.Native.Nat.{ℕ, _*_}
 use lib.Dec.{eqb, ltb}
 use lib.ListN.{length}
-use Rattle.refusal.specs.Refusal.{Check, _when_, badDegree, outside, someOutside, badPoints, badColumns, someOutsideField}
+use Rattle.refusal.specs.Refusal.{Check, _when_, badDegree, outside, someOutside, isIn, badPoints, badColumns, someOutsideField}
 use Rattle.codes.specs.Code.{Code, columns, rows, total, largest, jointLimit}
 use Rattle.codes.specs.Lost.{core}
+
+-- 02, 2026-05: '18, some k equals n, directly after 4': all n columns, 'Lost columns count in n here'
+abbrev pub unchecked : Code → Bool
+unchecked c = isIn (columns c) (c .lengths)
 
 -- '3: count of points is not 1 to 96 (desk: 1 to 16)'
 abbrev pub shapeChecks : (most : ℕ) → Code → List Check
@@ -21,6 +26,7 @@ shapeChecks most c =
     ∷ (2 when outside 1 4 (rows c))
     ∷ (3 when outside 1 most (columns c))
     ∷ (4 when someOutside 1 (columns c) (c .lengths))
+    ∷ (18 when unchecked c)
     ∷ []
 
 abbrev pub codeChecks : Code → List Check

@@ -84,7 +84,8 @@ passed c e =
     let p₂ = clear 1 _ _ (p₁ .1) in
     let p₃ = clear 2 _ _ (p₂ .1) in
     let p₄ = clear 3 _ _ (p₃ .1) in
-    let p₆ = clear 5 _ _ (p₄ .1) in
+    let p₁₈ = clear 17 _ _ (p₄ .1) in
+    let p₆ = clear 5 _ _ (p₁₈ .1) in
     let r = within 1 4 (rows c) (p₂ .0) in
     let n = within 1 16 (columns c) (p₃ .0) in
     record {

@@ -54,7 +54,7 @@ zeroDesk c = record {
 abbrev pub spareCode : Code
 spareCode = codeOf 2 (0 ∷ 1 ∷ []) (1 ∷ [])
 
--- 'under checks 1, 2, 3, 4, 6'; '3: count of points is not … (desk: 1 to 16)'
+-- 'under checks 1, 2, 3, 4, 6' (18 after 4: 02, 2026-05); '3: count of points is not … (desk: 1 to 16)'
 abbrev pub openChecks : Code → List Check
 openChecks c = shapeChecks 16 c ++ (6 when badPoints (c .degree) (c .points)) ∷ []
 

@@ -62,7 +62,7 @@ impl Desk {
         }
     }
 
-    // Opens a desk; refusals 1, 2, 3, 4, 6. A refused opening hands over the zero desk of GF(4) with points 0 1 and k 1.
+    // Opens a desk; refusals 1, 2, 3, 4, 18, 6. A refused opening hands over the zero desk of GF(4) with points 0 1 and k 1.
     pub fn open(degree: u32, points: &[u8], lengths: &[u8]) -> Opened
         ensures { λ r. ⌜ Opens (codeOf degree (now (points .entry)) (now (lengths .entry))) r ⌝ }
         ensures { λ r. ⌜ Made (r .desk) ⌝ }

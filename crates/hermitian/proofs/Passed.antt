@@ -1,7 +1,7 @@
 -- What the checks of a call leave true, and that the code of the ring's array passes its own.
 --
---   ring-passed      what 10 and 11 leave, and the checks that follow
---   PassedEncoding, PassedReading, PassedWord, PassedLost    what the checks of a call leave, of decoding 10, 11, 5 and 7, and all
+--   ring-passed      what 10, 11 and 18 leave, and the checks that follow
+--   PassedEncoding, PassedReading, PassedWord, PassedLost    what the checks of a call leave, of decoding 10, 11, 18, 5 and 7, and all
 --                    checks with lost sectors; encoding, reading, words, losing, from them
 --   reads-on         a ring passes the checks of reading
 --   to-encode, to-read, to-array, to-lose    then no check of the call on the array applies
@@ -18,7 +18,7 @@ use Rattle.refusal.proofs.Ladders.{miss, clear}
 use Rattle.field.specs.Symbols.{IsSymbol}
 use Rattle.poly.specs.Poly.{All}
 use Rattle.codes.specs.Code.{Code, rows, columns, total, IsMessage}
-use Rattle.codes.specs.Checks.{codeChecks, wrongLength, spaceBytes, remainingChecks}
+use Rattle.codes.specs.Checks.{unchecked, codeChecks, wrongLength, spaceBytes, remainingChecks}
 use Rattle.codes.specs.Checks as Mark
 use Rattle.codes.proofs.Proper.{neither, symbols-test, lengths-test, message}
 use Rattle.codes.proofs.Passed.{right-length, is-right, Counts}
@@ -31,14 +31,16 @@ use Rattle.hermitian.proofs.Sizes.{tested, ring-cells, ring-counts}
 pub record Passed (q m : ℕ) : Type 0 where
   pub size : badSize q ≡ false
   pub order : badOrder q m ≡ false
+  pub checked : unchecked (ringCode q m) ≡ false
 
 pub ring-passed : (q m : ℕ) (ds : List Check) → 0 ≡ first (ringChecks q m ++ ds) → Passed q m × (0 ≡ first ds)
 ring-passed q m ds e =
     let p = clear 9 _ _ e in
     let o = clear 10 _ _ (p .1) in
-    (record { size = p .0; order = o .0 }, o .1)
+    let k = clear 17 _ _ (o .1) in
+    (record { size = p .0; order = o .0; checked = k .0 }, k .1)
 
--- what 10, 11, 5 and 7 leave of a message and a word, of which the symbols s are the input
+-- what 10, 11, 18, 5 and 7 leave of a message and a word, of which the symbols s are the input
 buffers : (q m : ℕ) (f w s : List ℕ) → 0 ≡ first (ringChecks q m ++ bufferChecks q m f w s)
     → Passed q m × (length f ≡ total (ringLengths q m)) × (length w ≡ q * q * q) × (someOutsideField q s ≡ false)
 buffers q m f w s e =
@@ -67,7 +69,7 @@ reading q m w f e =
     let (ring, message, word, symbols) = buffers q m f w w e in
     record { ring = ring; word = record { count = word; symbols = symbols-test q w .0 symbols }; message = message }
 
--- what 10, 11, 5 and 7 of decoding leave
+-- what 10, 11, 18, 5 and 7 of decoding leave
 pub record PassedWord (q m : ℕ) (y w f s : List ℕ) : Type 0 where
   pub ring : Passed q m
   pub received : IsRing q y
@@ -113,6 +115,7 @@ pub reads-on : {q m : ℕ} → Passed q m → (f w : List ℕ) → IsRing q w �
 reads-on {q} {m} p f w h l =
     miss 10 _ _ (p .size)
     ∙ miss 11 _ _ (p .order)
+    ∙ miss 18 _ _ (p .checked)
     ∙ miss 5 _ _ (neither (wrongLength (total (ringLengths q m)) f) (wrongLength (q * q * q) w) .1
     (is-right _ f l, is-right _ w (h .count)))
     ∙ miss 7 _ _ (symbols-test q w .1 (h .symbols))
@@ -124,17 +127,18 @@ inside : (lo hi n : ℕ) → lo ≤ n → n ≤ hi → outside lo hi n ≡ false
 unfolding outside
 inside lo hi n l h = neither _ _ .1 (le-ltb n lo l, le-ltb hi n h)
 
--- the checks 1 to 4 of a code whose counts are within the limits do not apply
-counted : (c : Code) (ds : List Check) → Counts c → first (codeChecks c ++ ds) ≡ first ds
-counted c ds h =
+-- the checks 1 to 4 and 18 of a code whose counts are within the limits, and whose rows have check symbols, do not apply
+counted : (c : Code) (ds : List Check) → Counts c → unchecked c ≡ false → first (codeChecks c ++ ds) ≡ first ds
+counted c ds h u =
     miss 1 _ _ (h .degree)
     ∙ miss 2 _ _ (inside 1 4 (rows c) (h .some-rows) (h .most-rows))
     ∙ miss 3 _ _ (inside 1 96 (columns c) (h .some-columns) (h .most-columns))
     ∙ miss 4 _ _ (lengths-test 1 (columns c) (c .lengths) .1 (h .lengths))
+    ∙ miss 18 _ _ u
 
 module _ {q m : ℕ} (p : Passed q m) where
   onward : (ds : List Check) → first (codeChecks (ringCode q m) ++ ds) ≡ first ds
-  onward ds = counted (ringCode q m) ds (ring-counts q m (p .size) (p .order))
+  onward ds = counted (ringCode q m) ds (ring-counts q m (p .size) (p .order)) (p .checked)
 
   right-cells : (a : List ℕ) → length a ≡ q * q * q → wrongLength (rows (ringCode q m) * columns (ringCode q m)) a ≡ false
   right-cells a e = is-right _ a (e ∙ sym (ring-cells q m))

@@ -7,25 +7,28 @@
 --   orders             an m that is not bad is from q² − 1 to q³ − 1
 --   Room q m j, room   what working out k_j in numbers of the machine asks
 --   ring-lengths       every k_j is from 1 to q²; ring-rows, ring-cells: there are q of them, and q³ symbols in an array
+--   first-judged       only the first of them can be q²; refused-orders, so it is from m = q³ − q on
 --   ring-proper        the code of the arrays of H(m) is proper; ring-counts, its counts are within the limits
 -- Assumes nothing.
 use mathlib.Core.Path.{_≡_, refl, sym, _∙_, subst}
 use mathlib.Core.Logic.{_⊎_, inl, inr, ⊎-elim}
-use mathlib.Core.Bool.{Bool, true, false, not, _&&_, true≢false}
-use mathlib.Core.List.{flatMap}
+use mathlib.Core.Bool.{Bool, true, false, not, _&&_, _||_, true≢false}
+use mathlib.Core.List.{List, [], _∷_, flatMap}
 use Prim.Native.Nat.{ℕ, _+_, _-_, _*_, _/_, _^_, _≤_, _<_}
 use native.Mathlib.Nat.{mul-comm}
-use native.Mathlib.Decide.{ℕ-discrete}
+use native.Mathlib.Decide.{ℕ-discrete, decLe}
 use native.Mathlib.Omega.{arith}
-use lib.Dec.{T, eqb, eqb→eq}
+use lib.Dec.{T, eqb, leb, eqb→eq}
 use lib.ListN.{length, length-map}
-use borrow.Author.Tests.{ne-eqb}
+use borrow.Author.Tests.{eq-eqb, ne-eqb, le-leb, lt-leb}
 use Rattle.refusal.specs.Refusal.{badDegree, outsideField, someOutsideField, isIn, repeated, badPoints}
 use Rattle.refusal.proofs.Laws.{within}
 use Rattle.field.specs.Symbols.{plus, modulus, timesX, timesLow, times}
 use Rattle.field.proofs.Products.{allBelow, below, both}
 use Rattle.field.proofs.Instance.{field}
+use Rattle.poly.specs.Poly.{All}
 use Rattle.rows.specs.Working.Rows.{Points}
+use Rattle.codes.specs.Checks.{unchecked}
 use Rattle.codes.proofs.Proper.{Within, Proper, points-test}
 use Rattle.codes.proofs.Passed.{Counts, total-most}
 use Rattle.hermitian.specs.Ring.{numbers, raised, onCurve, those, sector, ringPoints, ringLength, ringLengths, ringCode}
@@ -129,6 +132,54 @@ lengths-4 m l h =
 pub ring-lengths : (q m : ℕ) → badSize q ≡ false → badOrder q m ≡ false → Within 1 (q * q) (ringLengths q m)
 ring-lengths q m h b = each (λ q. q * q - 1 ≤ m → m ≤ q * q * q - 1 → Within 1 (q * q) (ringLengths q m)) q h (lengths-2 m) (lengths-4 m)
     (orders q m b .0) (orders q m b .1)
+
+-- 'some k equals n': none but the first can
+shorter : (n k : ℕ) (ks : List ℕ) → All (λ (j : ℕ). j < n) ks → isIn n (k ∷ ks) ≡ eqb n k
+unfolding isIn
+shorter n k ks h = rw (absent n ks h) (or-false (eqb n k))
+  where
+    or-false : (b : Bool) → (b || false) ≡ b
+    or-false true = refl
+    or-false false = refl
+
+    absent : (n : ℕ) (ks : List ℕ) → All (λ (j : ℕ). j < n) ks → isIn n ks ≡ false
+    absent n [] h = refl
+    absent n (k ∷ ks) h = rw (ne-eqb n k (λ e. omega (arith, h .0)), absent n ks (h .1))
+
+first-2 : (m : ℕ) → 3 ≤ m → m ≤ 7 → isIn 4 (ringLengths 2 m) ≡ eqb 4 (ringLength 2 m 0)
+unfolding numbers ringLength
+first-2 m l h = shorter 4 _ _ (omega arith, tt)
+
+first-4 : (m : ℕ) → 15 ≤ m → m ≤ 63 → isIn 16 (ringLengths 4 m) ≡ eqb 16 (ringLength 4 m 0)
+unfolding numbers ringLength
+first-4 m l h = shorter 16 _ _ (omega arith, (omega arith, (omega arith, tt)))
+
+pub first-judged : (q m : ℕ) → badSize q ≡ false → badOrder q m ≡ false → unchecked (ringCode q m) ≡ eqb (q * q) (ringLength q m 0)
+first-judged q m h b = rw (length-numbers (q * q))
+    (each (λ q. q * q - 1 ≤ m → m ≤ q * q * q - 1 → isIn (q * q) (ringLengths q m) ≡ eqb (q * q) (ringLength q m 0)) q h
+    (first-2 m) (first-4 m) (orders q m b .0) (orders q m b .1))
+
+-- an equation that holds from m = k on
+from : (n a k m : ℕ) → (k ≤ m → n ≡ a) → (m < k → ¬ (n ≡ a)) → eqb n a ≡ leb k m
+from n a k m above below = go (decLe k m)
+  where
+    go : Dec (k ≤ m) → eqb n a ≡ leb k m
+    go (yes h) = eq-eqb n a (above h) ∙ sym (le-leb k m h)
+    go (no h) = ne-eqb n a (below (omega arith)) ∙ sym (lt-leb k m (omega arith))
+
+orders-2 : (m : ℕ) → 3 ≤ m → m ≤ 7 → eqb 4 (ringLength 2 m 0) ≡ leb 6 m
+unfolding ringLength
+orders-2 m l h = from 4 (ringLength 2 m 0) 6 m (λ a. omega arith) (λ b e. omega arith)
+
+orders-4 : (m : ℕ) → 15 ≤ m → m ≤ 63 → eqb 16 (ringLength 4 m 0) ≡ leb 60 m
+unfolding ringLength
+orders-4 m l h = from 16 (ringLength 4 m 0) 60 m (λ a. omega arith) (λ b e. omega arith)
+
+-- 02, 2026-05: 'for q=4, m from 60 to 63, for q=2, m of 6 and 7 are refused'
+pub refused-orders : (q m : ℕ) → badSize q ≡ false → badOrder q m ≡ false → unchecked (ringCode q m) ≡ leb (q * q * q - q) m
+refused-orders q m h b = first-judged q m h b
+    ∙ each (λ q. q * q - 1 ≤ m → m ≤ q * q * q - 1 → eqb (q * q) (ringLength q m 0) ≡ leb (q * q * q - q) m) q h
+    (orders-2 m) (orders-4 m) (orders q m b .0) (orders q m b .1)
 
 -- what working out k_j in numbers of the machine asks
 pub record Room (q m j : ℕ) : Type 0 where

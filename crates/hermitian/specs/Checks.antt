@@ -3,9 +3,9 @@
 --
 --   badSize q             the test of number 10
 --   badOrder q m          the test of number 11
---   ringChecks q m        10 and 11
+--   ringChecks q m        10, 11 and 18
 --   encodeChecks, readChecks, decodeChecks
---   wordChecks            10, 11, 5 and 7 of decoding
+--   wordChecks            10, 11, 18, 5 and 7 of decoding
 --   lostChecks            those of a decoding with lost sectors: 16, 17 and 8 are those of the array
 use mathlib.Core.Bool.{Bool, not, _||_}
 use mathlib.Core.List.{List, [], _∷_, _++_}
@@ -14,7 +14,7 @@ use lib.Dec.{eqb, ltb}
 use lib.ListN.{length}
 use Rattle.refusal.specs.Refusal.{Check, _when_, outside, someOutsideField}
 use Rattle.codes.specs.Code.{total, jointLimit}
-use Rattle.codes.specs.Checks.{wrongLength, spaceBytes, remainingChecks}
+use Rattle.codes.specs.Checks.{unchecked, wrongLength, spaceBytes, remainingChecks}
 use Rattle.hermitian.specs.Ring.{ringLengths, ringCode}
 
 -- '10: Hermitian: q is not 2 or 4'
@@ -25,8 +25,9 @@ badSize q = not (eqb q 2 || eqb q 4)
 unfoldable pub badOrder : ℕ → ℕ → Bool
 badOrder q m = outside (q * q - 1) (q * q * q - 1) m
 
+-- 02, 2026-05: '18, some k equals n, directly after 4; for rings directly after 11'
 abbrev pub ringChecks : ℕ → ℕ → List Check
-ringChecks q m = (10 when badSize q) ∷ (11 when badOrder q m) ∷ []
+ringChecks q m = (10 when badSize q) ∷ (11 when badOrder q m) ∷ (18 when unchecked (ringCode q m)) ∷ []
 
 -- 5 and 7 of a message and a word, of which the symbols s are the input
 abbrev pub bufferChecks : ℕ → ℕ → List ℕ → List ℕ → List ℕ → List Check

@@ -60,15 +60,14 @@ module _ (g : Given) (l : Left) (h : Decodes g l) where
   never : (k : ℕ) (b : Buffers) → ¬ EndsAs (Refused k) b
   never k b d = d
 
-  number-upto : first (checksOf g) ≤ 8
-  number-upto = first-upto 8 (checksOf g)
-      (omega arith, (omega arith, (omega arith, (omega arith, (omega arith, (omega arith, (omega arith, (omega arith, tt))))))))
+  number-upto : first (checksOf g) ≤ 18
+  number-upto = first-upto 18 (checksOf g) refl
 
   pub refused-exactly : IsRefused ↔ ¬ (first (checksOf g) ≡ 0)
   refused-exactly = halves.refused-exactly (checksOf g) (g .lent) (g .space) EndsAs never l h
 
   pub refused-leaves : (k : ℕ) → l .ending ≡ Refused k
-      → (k ≡ first (checksOf g)) × (1 ≤ k) × (k ≤ 8) × (l .buffers ≡ g .lent) × (l .space ≡ g .space)
+      → (k ≡ first (checksOf g)) × (1 ≤ k) × (k ≤ 18) × (l .buffers ≡ g .lent) × (l .space ≡ g .space)
   refused-leaves k e =
       let (first, some, b, s) = halves.refused-leaves (checksOf g) (g .lent) (g .space) EndsAs never l h k e in
       (first, some, omega (arith, number-upto), b, s)

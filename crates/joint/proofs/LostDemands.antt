@@ -71,9 +71,8 @@ module _ (L : List ℕ) (g : Given) where
       (λ none e e′ b b′. let q = passed none in
       ends-unique (g .code) L (q .array .proper) (q .remain) (q .array .received) (g .lent) e e′ b b′)
 
-  number-upto : first (checksLost L g) ≤ 17
-  number-upto = first-upto 17 (checksLost L g)
-      (omega arith, (omega arith, (omega arith, (omega arith, (omega arith, (omega arith, (omega arith, (omega arith, (omega arith, (omega arith, tt))))))))))
+  number-upto : first (checksLost L g) ≤ 18
+  number-upto = first-upto 18 (checksLost L g) refl
 
 -- 'Received symbols in lost columns have no influence, but must lie in the field.'
 module _ (L : List ℕ) (c : Code) (τ : ℕ) (lent : Buffers) (space y y′ : List ℕ) (sized : length y ≡ length y′)

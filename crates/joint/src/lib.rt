@@ -77,8 +77,8 @@ fn work(
     ending
 }
 
-// Decodes a received array jointly: refusals 1 to 8, which touch nothing; else the ending, on `corrected` with the answer and the
-// flags of its wrong columns written, and in every case with the first 49,152 bytes of the working space zero.
+// Decodes a received array jointly: refusals 1 to 8, 18 behind 4, which touch nothing; else the ending, on `corrected` with the
+// answer and the flags of its wrong columns written, and in every case with the first 49,152 bytes of the working space zero.
 pub fn decode(
     degree: u32,
     lengths: &[u8],
@@ -204,9 +204,9 @@ fn work_lost(
     ending
 }
 
-// Decodes a received array of which some columns are lost: refusals 1 to 7, 16, 17 and 8, which touch nothing; else the ending of
-// the array of the remaining columns, on `corrected` with the whole answer and its flags written, 2 at the lost columns, and in
-// every case with the first 49,152 bytes of the working space zero.
+// Decodes a received array of which some columns are lost: refusals 1 to 7, 18 behind 4, 16, 17 and 8, which touch nothing; else
+// the ending of the array of the remaining columns, on `corrected` with the whole answer and its flags written, 2 at the lost
+// columns, and in every case with the first 49,152 bytes of the working space zero.
 pub fn decode_lost(
     degree: u32,
     lengths: &[u8],

@@ -17,7 +17,7 @@ use mathlib.Core.List.{List, [], _∷_}
 use Prim.Native.Nat.{ℕ, _*_}
 use native.Mathlib.Omega.{arith}
 use lib.ListN.{length, getD}
-use Rattle.refusal.specs.Refusal.{first, badDegree, outside, someOutside}
+use Rattle.refusal.specs.Refusal.{first, badDegree, outside, someOutside, isIn}
 use Rattle.refusal.proofs.Ladders.{passed-on, front-passed}
 use Rattle.field.specs.Symbols.{plus, modulus, timesX, timesLow, times}
 use Rattle.poly.specs.Poly.{value, valuesAt}
@@ -122,6 +122,6 @@ last-skipped lent h =
 
 -- 'Points 1 2 1: refused 6'; with a message of three for k = 2 it is 5
 pub six-first : (lent : List ℕ) → Encodes (codeOf 4 (1 ∷ 2 ∷ 1 ∷ []) (2 ∷ [])) (5 ∷ 6 ∷ 7 ∷ []) lent (refused lent 6) → ⊥
-unfolding first badDegree outside someOutside total
+unfolding first badDegree outside someOutside isIn total
 six-first lent h = let z = encode-refused (codeOf 4 (1 ∷ 2 ∷ 1 ∷ []) (2 ∷ [])) (5 ∷ 6 ∷ 7 ∷ []) lent
     (refused lent 6) h 6 refl .0 in omega arith

@@ -11,7 +11,7 @@ pub enum Outcome {
     Refused(u8),
 }
 
-// Writes the code array of a message; refusals 1 to 7, which leave the array's buffer as lent.
+// Writes the code array of a message; refusals 1 to 7, 18 behind 4, which leave the array's buffer as lent.
 pub fn encode(
     degree: u32,
     lengths: &[u8],
@@ -30,7 +30,8 @@ pub fn encode(
     Outcome::Done
 }
 
-// Writes the message of a code array; refusals 1 to 7, and 9 where the array is none. They leave the message's buffer as lent.
+// Writes the message of a code array; refusals 1 to 7, 18 behind 4, and 9 where the array is none. They leave the message's buffer
+// as lent.
 pub fn read(degree: u32, lengths: &[u8], points: &[u8], array: &[u8], message: &mut [u8]) -> Outcome
     ensures { λ r. ⌜ Reads (codeOf degree (now (points .entry)) (now (lengths .entry))) (now (array .entry)) (now (message .entry))
         (left r (now (message .exit))) ⌝ }

@@ -6,13 +6,15 @@
 --   stopped, passed-on    over cs ++ ds the first check of cs that applies decides; where none does, ds decides
 --   front-passed          where no check of cs ++ ds applies, none of cs does
 --   same-behind           checks behind cs can be exchanged for others that decide alike where cs pass
---   Upto m cs             the numbers of the checks are at most m; first-upto, so is that of the first that applies
+--   upto m cs             whether the numbers of the checks are at most m; first-upto, so is then that of the first that applies
 -- Assumes nothing.
-use mathlib.Core.Path.{_≡_, refl}
-use mathlib.Core.Bool.{Bool, true, false}
+use mathlib.Core.Path.{_≡_, refl, sym}
+use mathlib.Core.Bool.{Bool, true, false, _&&_, true≢false}
 use mathlib.Core.List.{List, [], _∷_, _++_}
 use Prim.Native.Nat.{ℕ, zero, suc, _≤_}
 use native.Mathlib.Omega.{arith}
+use lib.Dec.{leb}
+use borrow.Author.Tests.{leb-true}
 use Rattle.refusal.specs.Refusal.{Check, _when_, first}
 
 pub hit : (k : ℕ) (b : Bool) (cs : List Check) → b ≡ true → first ((k when b) ∷ cs) ≡ k
@@ -64,12 +66,16 @@ same-behind ((zero when b) ∷ cs) ds es h e = absurd h
 same-behind ((suc k when true) ∷ cs) ds es h e = refl
 same-behind ((suc k when false) ∷ cs) ds es h e = same-behind cs ds es h e
 
-abbrev pub Upto : ℕ → List Check → Type 0
-Upto m [] = Unit {0}
-Upto m ((k when b) ∷ cs) = (k ≤ m) × Upto m cs
+abbrev pub upto : ℕ → List Check → Bool
+upto m [] = true
+upto m ((k when b) ∷ cs) = leb k m && upto m cs
 
-pub first-upto : (m : ℕ) (cs : List Check) → Upto m cs → first cs ≤ m
+both : (a b : Bool) → (a && b) ≡ true → (a ≡ true) × (b ≡ true)
+both true b e = (refl, e)
+both false b e = absurd (true≢false (sym e))
+
+pub first-upto : (m : ℕ) (cs : List Check) → upto m cs ≡ true → first cs ≤ m
 unfolding first
 first-upto m [] u = omega arith
-first-upto m ((k when true) ∷ cs) u = u .0
-first-upto m ((k when false) ∷ cs) u = first-upto m cs (u .1)
+first-upto m ((k when true) ∷ cs) u = leb-true k m (both (leb k m) (upto m cs) u .0)
+first-upto m ((k when false) ∷ cs) u = first-upto m cs (both (leb k m) (upto m cs) u .1)

@@ -1,7 +1,7 @@
 // The tests behind the refusals, each a function whose contract is its test.
 ghost use mathlib.Core.Path.{_≡_};
 ghost use Prim.Native.Nat.{_≤_};
-ghost use Rattle.refusal.specs.Refusal.{badColumns, badDegree, badPoints, repeated};
+ghost use Rattle.refusal.specs.Refusal.{badColumns, badDegree, badPoints, isIn, repeated};
 ghost use Rattle.refusal.specs.Refusal.{outside, outsideField, someOutside, someOutsideField};
 
 // For the crates above: number 1 applies, the degree is not 2, 4 or 8.
@@ -34,6 +34,20 @@ pub fn some_outside(lo: usize, hi: usize, ks: &[u8]) -> bool
     let mut i = 0;
     while i < ks.len() {
         if outside(lo, hi, ks[i] as usize) {
+            return true;
+        }
+        i += 1;
+    }
+    false
+}
+
+// For the crates above: number 18 applies, some k of the list is n.
+pub fn is_in(n: usize, ks: &[u8]) -> bool
+    ensures { λ r. ⌜ r ≡ isIn n (now (ks .entry)) ⌝ }
+{
+    let mut i = 0;
+    while i < ks.len() {
+        if n == ks[i] as usize {
             return true;
         }
         i += 1;

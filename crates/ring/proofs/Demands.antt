@@ -145,11 +145,11 @@ module _ (g : Given) (l : Joint.Left) (h : Decodes g l) where
   refused-exactly = subst (λ (n : ℕ). IsRefused l ↔ ¬ (n ≡ 0)) (none-checks g) (lost.refused-exactly [] g l none-lost)
 
   pub refused-leaves : (k : ℕ) → l .ending ≡ Refused k
-      → (k ≡ first (checksOf g)) × Mem k (10 ∷ 11 ∷ 5 ∷ 7 ∷ 8 ∷ []) × (l .buffers ≡ g .lent) × (l .space ≡ g .space)
+      → (k ≡ first (checksOf g)) × Mem k (10 ∷ 11 ∷ 18 ∷ 5 ∷ 7 ∷ 8 ∷ []) × (l .buffers ≡ g .lent) × (l .space ≡ g .space)
   refused-leaves k e =
       let (is, some, buffers, space) = lost.refused-leaves [] g l none-lost k e in
       let same : k ≡ first (checksOf g) = is ∙ none-checks g in
-      let one : Mem (first (checksOf g)) (10 ∷ 11 ∷ 5 ∷ 7 ∷ 8 ∷ []) =
+      let one : Mem (first (checksOf g)) (10 ∷ 11 ∷ 18 ∷ 5 ∷ 7 ∷ 8 ∷ []) =
       ⊎-elim (λ z. absurd (omega arith)) (λ i. i) (first-of (checksOf g)) in
       (same, rw same one, buffers, space)
 

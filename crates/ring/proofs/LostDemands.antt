@@ -171,8 +171,4 @@ module _ (L : List ℕ) (g : Given) (l : Joint.Left) (h : DecodesLost L g l) whe
   pub detail-small : detailOf (meaning (l .ending)) < 256
   detail-small = halves.by-number (checksLost L g) (g .lent) (g .space) (EndsAs L g) (never L g) l h
       (λ none d. arrays.detail-small L (on-array g) _ (through-array L g none (d .0) .decodes))
-      (λ j e d. let n = ap (λ (r : Joint.Left). detailOf (meaning (r .ending))) d in omega (
-        arith,
-        first-upto 17 (checksLost L g)
-            (omega arith, (omega arith, (omega arith, (omega arith, (omega arith, (omega arith, (omega arith, tt))))))),
-      ))
+      (λ j e d. let n = ap (λ (r : Joint.Left). detailOf (meaning (r .ending))) d in omega (arith, first-upto 18 (checksLost L g) refl))

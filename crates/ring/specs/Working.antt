@@ -25,11 +25,11 @@ use Rattle.rows.specs.Working.Rows.{Points}
 use Rattle.ending.specs.declared.Ending.{Ending}
 use Rattle.ending.specs.declared.Ending.the-variants.{Corrected}
 use Rattle.hermitian.specs.Ring.{numbers, sector, IsRing}
-use Rattle.hermitian.specs.Checks.{badSize}
-use Rattle.hermitian.proofs.Passed.{Passed}
+use Rattle.hermitian.specs.Checks.{badSize, badOrder}
 
 pub record Row (q m j : ℕ) : Type 0 where
-  pub ring : Passed q m
+  pub size : badSize q ≡ false
+  pub order : badOrder q m ≡ false
   pub below : j < q
 
 pub record Turnable (r n : ℕ) (from to : List ℕ) : Type 0 where

@@ -6,7 +6,7 @@ ghost use Prim.Native.Nat.{ℕ};
 ghost use lib.ListN.{length};
 ghost use Rattle.refusal.specs.Refusal.{first};
 ghost use Rattle.codes.specs.Code.{total};
-ghost use Rattle.codes.specs.Checks.{remainingChecks};
+ghost use Rattle.codes.specs.Checks.{remainingChecks, unchecked};
 ghost use Rattle.hermitian.specs.Ring.{ringCode, ringLengths};
 ghost use Rattle.hermitian.specs.Checks.{badOrder, badSize, bufferChecks, encodeChecks, lostChecks, readChecks, ringChecks};
 ghost use Rattle.hermitian.proofs.Passed.{Passed};
@@ -31,7 +31,17 @@ fn bad_order(q: u32, m: u32) -> bool
     refusal::outside(n * n - 1, n * n * n - 1, m as usize)
 }
 
-// The first of the checks 10 and 11 that applies, 0 where none does.
+// Number 18 applies, some message length of H(m) is the number of columns: the first, which is the longest.
+fn unchecked(q: u32, m: u32) -> bool
+    requires { ⌜ badSize q ≡ false ⌝ }
+    requires { ⌜ badOrder q m ≡ false ⌝ }
+    ensures { λ r. ⌜ r ≡ unchecked (ringCode q m) ⌝ }
+{
+    let n = shape::side(q);
+    n * n == shape::length(q, m, 0) as usize
+}
+
+// The first of the checks 10, 11 and 18 that applies, 0 where none does.
 fn ring_refusal(q: u32, m: u32) -> u8
     ensures { λ r. ⌜ r ≡ first (ringChecks q m) ⌝ }
 {
@@ -40,6 +50,9 @@ fn ring_refusal(q: u32, m: u32) -> u8
     }
     if bad_order(q, m) {
         return 11;
+    }
+    if unchecked(q, m) {
+        return 18;
     }
     0
 }
@@ -64,7 +77,7 @@ fn remaining_refusal(q: u32, m: u32, limit: u32, lost: &[u8]) -> u8
     array_checks::remaining_refusal(&ks[..n], &xs[..n * n], limit, lost)
 }
 
-// The first of the checks 10, 11, 5 and 7 that applies to a message and a word of these lengths, of which the symbols are the
+// The first of the checks 10, 11, 18, 5 and 7 that applies to a message and a word of these lengths, of which the symbols are the
 // input; 0 where none does.
 fn buffers_refusal(q: u32, m: u32, message: usize, word: usize, symbols: &[u8]) -> u8
     ensures { λ r. ⌜ ((f w : List ℕ) → length f ≡ message → length w ≡ word

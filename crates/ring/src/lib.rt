@@ -44,7 +44,7 @@ fn read_word(q: u32, m: u32, word: &[u8], message: &mut [u8]) -> Outcome
     mark::read(q, &ks[..n], &xs[..n * n], &array[..word.len()], message)
 }
 
-// Writes the word of H(m) of a message; refusals 10, 11, 5 and 7, which leave the word's buffer as lent.
+// Writes the word of H(m) of a message; refusals 10, 11, 18, 5 and 7, which leave the word's buffer as lent.
 pub fn encode(q: u32, m: u32, message: &[u8], word: &mut [u8]) -> Outcome
     ensures { λ r. ⌜ Encodes q m (now (message .entry)) (now (word .entry)) (left r (now (word .exit))) ⌝ }
 {
@@ -56,7 +56,7 @@ pub fn encode(q: u32, m: u32, message: &[u8], word: &mut [u8]) -> Outcome
     Outcome::Done
 }
 
-// Writes the message of a word of H(m); refusals 10, 11, 5 and 7, and 9 where the ring is no word. They leave the message's
+// Writes the message of a word of H(m); refusals 10, 11, 18, 5 and 7, and 9 where the ring is no word. They leave the message's
 // buffer as lent.
 pub fn read(q: u32, m: u32, word: &[u8], message: &mut [u8]) -> Outcome
     ensures { λ r. ⌜ Reads q m (now (word .entry)) (now (message .entry)) (left r (now (message .exit))) ⌝ }
@@ -121,7 +121,7 @@ fn decode_ring(
     ending
 }
 
-// Decodes a received ring of which some sectors are lost: refusals 10, 11, 5, 7, 16, 17 and 8, which touch nothing; else the ending
+// Decodes a received ring of which some sectors are lost: refusals 10, 11, 18, 5, 7, 16, 17 and 8, which touch nothing; else the ending
 // of the remaining sectors, on `corrected` with the whole word and its flags written, 2 at the lost sectors, and in every case with
 // the first 49,152 bytes of the working space zero.
 pub fn decode_lost(
@@ -154,7 +154,7 @@ pub fn decode_lost(
     decode_ring(q, m, limit, lost, received, answer, flags, space)
 }
 
-// Decodes a received ring: refusals 10, 11, 5, 7 and 8, which touch nothing; else the ending, on `corrected` with the word and
+// Decodes a received ring: refusals 10, 11, 18, 5, 7 and 8, which touch nothing; else the ending, on `corrected` with the word and
 // the flags of its wrong sectors written, and in every case with the first 49,152 bytes of the working space zero.
 pub fn decode(
     q: u32,

@@ -5,8 +5,7 @@ ghost use mathlib.Core.List.{flatMap};
 ghost use Prim.Native.Nat.{_*_};
 ghost use lib.ListN.{take};
 ghost use Rattle.hermitian.specs.Ring.{numbers, ringLength, ringLengths, sector};
-ghost use Rattle.hermitian.specs.Checks.{badSize};
-ghost use Rattle.hermitian.proofs.Passed.{Passed};
+ghost use Rattle.hermitian.specs.Checks.{badOrder, badSize};
 ghost use Rattle.ring.specs.Working.{Row};
 
 // The x of the columns.
@@ -112,7 +111,7 @@ pub(crate) fn ordinates(q: u32) -> [u8; 64]
 }
 
 // The message length of row j.
-fn length(q: u32, m: u32, j: usize) -> u8
+pub(crate) fn length(q: u32, m: u32, j: usize) -> u8
     requires { ⌜ Row q m j ⌝ }
     ensures { λ r. ⌜ r ≡ ringLength q m j ⌝ }
 {
@@ -121,7 +120,8 @@ fn length(q: u32, m: u32, j: usize) -> u8
 
 // The message lengths of H(m), of which q count.
 pub(crate) fn lengths(q: u32, m: u32) -> [u8; 4]
-    requires { ⌜ Passed q m ⌝ }
+    requires { ⌜ badSize q ≡ false ⌝ }
+    requires { ⌜ badOrder q m ≡ false ⌝ }
     ensures { λ r. ⌜ take q r ≡ ringLengths q m ⌝ }
 {
     let mut ks = [0u8; 4];

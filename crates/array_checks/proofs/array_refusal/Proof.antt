@@ -3,7 +3,7 @@
 use mathlib.Core.Path.{_≡_, refl, sym, ap, ap₂, _∙_}
 use mathlib.Core.Bool.{not, _||_}
 use mathlib.Core.List.{List}
-use Prim.Native.Nat.{ℕ, _*_}
+use Prim.Native.Nat.{ℕ, _+_, _*_}
 use lib.Dec.{eqb, ltb}
 use lib.ListN.{length, drop}
 use Rattle.refusal.specs.Refusal.{Check, first}
@@ -32,7 +32,7 @@ passed c = c .before .before
 abbrev fitting : tie.After-points-refusal → tie.After-cells
 fitting c = c .before .before
 
--- buffers of the lengths that the code was given, and that the first k checks do not apply to them
+-- buffers of the lengths that the code was given, and that the checks of the code and k more do not apply to them
 module _ (a f w : List ℕ) where
   abbrev checks : tie.After-code-refusal → List Check
   checks c = arrayChecks (code c) (start c .args .received .now) a f w
@@ -41,7 +41,7 @@ module _ (a f w : List ℕ) where
   Lent c = (length a ≡ start c .args .answer) × (length f ≡ start c .args .flags) × (length w ≡ start c .args .space)
 
   abbrev Rest : ℕ → tie.After-code-refusal → Type 0
-  Rest k c = Lent c → first (checks c) ≡ first (drop k (checks c))
+  Rest k c = Lent c → first (checks c) ≡ first (drop (length (codeChecks (code c)) + k) (checks c))
 
   -- the four lengths, as the code tests them and as the definition does
   lengths-are : (c : tie.After-cells) → Lent (passed c) → let s = start (passed c) .args in let n = columns (code (passed c)) in
@@ -55,23 +55,23 @@ module _ (a f w : List ℕ) where
       (as-tested f q refl))
       (ap (λ (n : ℕ). ltb n spaceBytes) s)
 
-  rest4 : (c : tie.Else1) → Rest 4 (c .before)
-  rest4 c h = passed-on (codeChecks (code (c .before))) _ tt (c .before .code-refusal .ensures) (c .if1 .left)
+  code-passed : (c : tie.Else1) → Rest 0 (c .before)
+  code-passed c h = passed-on (codeChecks (code (c .before))) _ tt (c .before .code-refusal .ensures) (c .if1 .left)
 
-  rest5 : (c : tie.Else2) → Rest 5 (passed (c .before))
-  rest5 c h = rest4 (c .before .before) h ∙ miss _ _ _ (lengths-are (c .before) h ∙ c .if2 .left)
+  lengths-passed : (c : tie.Else2) → Rest 1 (passed (c .before))
+  lengths-passed c h = code-passed (c .before .before) h ∙ miss _ _ _ (lengths-are (c .before) h ∙ c .if2 .left)
 
-  rest6 : (c : tie.Else3) → Rest 6 (passed (fitting (c .before)))
-  rest6 c h = rest5 (c .before .before) h ∙ passed-on _ _ tt (c .before .points-refusal .ensures) (c .if3 .left)
+  points-passed : (c : tie.Else3) → Rest 2 (passed (fitting (c .before)))
+  points-passed c h = lengths-passed (c .before .before) h ∙ passed-on _ _ tt (c .before .points-refusal .ensures) (c .if3 .left)
 
 pub array-refusal-spec : {M : Type 1} → statement M
 array-refusal-spec = tie.close (tie.spec
     (λ c κs. search needs)
     (λ c a f w p q s. stopped _ _ (c .before .code-refusal .ensures) (c .if1 .taken))
     (λ c κs. sizes-of (counts c))
-    (λ c a f w p q s. sym (rest4 a f w (c .before .before) (p, q, s)
+    (λ c a f w p q s. sym (code-passed a f w (c .before .before) (p, q, s)
     ∙ hit _ _ _ (lengths-are a f w (c .before) (p, q, s) ∙ c .if2 .taken)))
     (λ c κs. search needs)
-    (λ c a f w p q s. stopped _ _ (c .before .points-refusal .ensures) (c .if3 .taken) ∙ sym (rest5 a f w (c .before .before) (p, q, s)))
+    (λ c a f w p q s. stopped _ _ (c .before .points-refusal .ensures) (c .if3 .taken) ∙ sym (lengths-passed a f w (c .before .before) (p, q, s)))
     (λ c κs. search needs)
-    (λ c a f w p q s. c .symbols-refusal .ensures ∙ sym (rest6 a f w (c .before) (p, q, s))))
+    (λ c a f w p q s. c .symbols-refusal .ensures ∙ sym (points-passed a f w (c .before) (p, q, s))))

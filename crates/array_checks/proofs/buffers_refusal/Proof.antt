@@ -3,7 +3,7 @@
 use mathlib.Core.Path.{_≡_, sym, ap₂, _∙_}
 use mathlib.Core.Bool.{not, _||_}
 use mathlib.Core.List.{List, _++_}
-use Prim.Native.Nat.{ℕ, _*_}
+use Prim.Native.Nat.{ℕ, _+_, _*_}
 use lib.Dec.{eqb}
 use lib.ListN.{length, drop}
 use Rattle.refusal.specs.Refusal.{Check, first}
@@ -32,27 +32,27 @@ passed c = c .before .before .before
 abbrev fitting : tie.After-points-refusal → tie.After-cells
 fitting c = c .before .before
 
--- a message and an array of the lengths that the code was given, and that the first k checks do not apply to them
+-- a message and an array of the lengths that the code was given, and that the checks of the code and k more do not apply to them
 module _ (m a : List ℕ) where
   abbrev checks : tie.After-code-refusal → List Check
   checks c = codeChecks (code c) ++ bufferChecks (code c) m a (start c .args .symbols .now)
 
   abbrev Rest : ℕ → tie.After-code-refusal → Type 0
-  Rest k c = length m ≡ start c .args .message → length a ≡ start c .args .array → first (checks c) ≡ first (drop k (checks c))
+  Rest k c = length m ≡ start c .args .message → length a ≡ start c .args .array → first (checks c) ≡ first (drop (length (codeChecks (code c)) + k) (checks c))
 
   lengths-are : (c : tie.After-cells) → let s = start (passed c) .args in length m ≡ s .message → length a ≡ s .array
       → (wrongLength (total (s .lengths .now)) m || wrongLength (rows (code (passed c)) * columns (code (passed c))) a)
       ≡ (not (eqb (s .message) (c .before .total .result)) || not (eqb (s .array) (c .cells .result)))
   lengths-are c p q = ap₂ _||_ (as-tested m p (c .before .total .ensures)) (as-tested a q (c .cells .ensures))
 
-  rest4 : (c : tie.Else1) → Rest 4 (c .before)
-  rest4 c p q = passed-on (codeChecks (code (c .before))) _ tt (c .before .code-refusal .ensures) (c .if1 .left)
+  code-passed : (c : tie.Else1) → Rest 0 (c .before)
+  code-passed c p q = passed-on (codeChecks (code (c .before))) _ tt (c .before .code-refusal .ensures) (c .if1 .left)
 
-  rest5 : (c : tie.Else2) → Rest 5 (passed (c .before))
-  rest5 c p q = rest4 (c .before .before .before) p q ∙ miss _ _ _ (lengths-are (c .before) p q ∙ c .if2 .left)
+  lengths-passed : (c : tie.Else2) → Rest 1 (passed (c .before))
+  lengths-passed c p q = code-passed (c .before .before .before) p q ∙ miss _ _ _ (lengths-are (c .before) p q ∙ c .if2 .left)
 
-  rest6 : (c : tie.Else3) → Rest 6 (passed (fitting (c .before)))
-  rest6 c p q = rest5 (c .before .before) p q ∙ passed-on _ _ tt (c .before .points-refusal .ensures) (c .if3 .left)
+  points-passed : (c : tie.Else3) → Rest 2 (passed (fitting (c .before)))
+  points-passed c p q = lengths-passed (c .before .before) p q ∙ passed-on _ _ tt (c .before .points-refusal .ensures) (c .if3 .left)
 
 pub buffers-refusal-spec : {M : Type 1} → statement M
 buffers-refusal-spec = tie.close (tie.spec
@@ -60,8 +60,8 @@ buffers-refusal-spec = tie.close (tie.spec
     (λ c m a p q. stopped _ _ (c .before .code-refusal .ensures) (c .if1 .taken))
     (λ c κs. counts c .most-rows)
     (λ c κs. sizes-of (counts (c .before)))
-    (λ c m a p q. sym (rest4 m a (c .before .before .before) p q ∙ hit _ _ _ (lengths-are m a (c .before) p q ∙ c .if2 .taken)))
+    (λ c m a p q. sym (code-passed m a (c .before .before .before) p q ∙ hit _ _ _ (lengths-are m a (c .before) p q ∙ c .if2 .taken)))
     (λ c κs. search needs)
-    (λ c m a p q. stopped _ _ (c .before .points-refusal .ensures) (c .if3 .taken) ∙ sym (rest5 m a (c .before .before) p q))
+    (λ c m a p q. stopped _ _ (c .before .points-refusal .ensures) (c .if3 .taken) ∙ sym (lengths-passed m a (c .before .before) p q))
     (λ c κs. search needs)
-    (λ c m a p q. c .symbols-refusal .ensures ∙ sym (rest6 m a (c .before) p q)))
+    (λ c m a p q. c .symbols-refusal .ensures ∙ sym (points-passed m a (c .before) p q)))

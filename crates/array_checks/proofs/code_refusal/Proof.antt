@@ -1,4 +1,4 @@
--- `code_refusal` is the number of the first of the checks 1 to 4 that applies.
+-- `code_refusal` is the number of the first of the checks 1 to 4 and 18 that applies.
 -- Assumes nothing.
 use mathlib.Core.Path.{_≡_, sym, _∙_}
 use mathlib.Core.List.{List}
@@ -34,6 +34,13 @@ rest2 c = rest1 (c .before .before) ∙ miss _ _ _ (sym (c .before .outside .ens
 rest3 : (c : tie.Else3) → Rest 3 (checks3 (c .before))
 rest3 c = rest2 (c .before .before) ∙ miss _ _ _ (sym (c .before .outside2 .ensures) ∙ c .if3 .left)
 
+-- where both tests of the lengths are made
+abbrev tested : tie.After-is-in → tie.Else3
+tested c = c .before .before
+
+rest4 : (c : tie.Else4) → Rest 4 (checks3 (tested (c .before) .before))
+rest4 c = rest3 (tested (c .before)) ∙ miss _ _ _ (sym (c .before .before .some-outside .ensures) ∙ c .if4 .left)
+
 pub code-refusal-spec : {M : Type 1} → statement M
 code-refusal-spec = tie.close (tie.spec
     (λ c κs. search needs)
@@ -43,5 +50,7 @@ code-refusal-spec = tie.close (tie.spec
     (λ c κs. search needs)
     (λ c. sym (rest2 (c .before .before) ∙ hit _ _ _ (sym (c .before .outside2 .ensures) ∙ c .if3 .taken)))
     (λ c κs. search needs)
-    (λ c. sym (rest3 (c .before .before) ∙ hit _ _ _ (sym (c .before .some-outside .ensures) ∙ c .if4 .taken)))
-    (λ c. sym (rest3 (c .before .before) ∙ miss-last _ _ (sym (c .before .some-outside .ensures) ∙ c .if4 .left))))
+    (λ c κs. search needs)
+    (λ c. sym (rest3 (tested (c .before)) ∙ hit _ _ _ (sym (c .before .before .some-outside .ensures) ∙ c .if4 .taken)))
+    (λ c. sym (rest4 (c .before) ∙ hit _ _ _ (sym (c .before .before .is-in .ensures) ∙ c .if5 .taken)))
+    (λ c. sym (rest4 (c .before) ∙ miss-last _ _ (sym (c .before .before .is-in .ensures) ∙ c .if5 .left))))

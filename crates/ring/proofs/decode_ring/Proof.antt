@@ -107,7 +107,7 @@ decode-ring-spec =
     tie.close
     (tie.spec
     (λ c κs. search needs)
-    (λ c κs. passed (start c) .word .ring)
+    (λ c κs. let p = passed (start c) .word .ring in (p .size, p .order))
     (λ c κs. passed (start (c .before)) .word .ring .size)
     (λ c κs. let p = passed (start (c .before .before)) .word in record { size = p .ring .size; ring = p .received })
     (λ c. shaped c .lengths .room)

@@ -42,7 +42,7 @@ read-word-spec =
     tie.close
     (tie.spec
     (λ c κs. search needs)
-    (λ c κs. passed (start c) .ring)
+    (λ c κs. let p = passed (start c) .ring in (p .size, p .order))
     (λ c κs. passed (start (c .before)) .ring .size)
     (λ c κs. let p = passed (start (c .before .before)) in record { size = p .ring .size; ring = p .word })
     (λ c. shaped c .lengths .room)

@@ -72,7 +72,7 @@ write-word-spec =
     tie.close
     (tie.spec
     (λ c κs. search needs)
-    (λ c κs. passed (start c) .ring)
+    (λ c κs. let p = passed (start c) .ring in (p .size, p .order))
     (λ c κs. passed (start (c .before)) .ring .size)
     (λ c. shaped c .lengths .room)
     (λ c. lent (shaped (c .before) .lengths))

@@ -8,7 +8,7 @@ use Rattle.ring.proofs.shape.length.Statement.{statement}
 use Rattle.ring.proofs.shape.length.Tie as tie
 
 fits : (s : tie.Start) → Room (s .args .q) (s .args .m) (s .args .j)
-fits s = room (s .args .q) (s .args .m) (s .args .j) (s .pre .ring .size) (s .pre .ring .order) (s .pre .below)
+fits s = room (s .args .q) (s .args .m) (s .args .j) (s .pre .size) (s .pre .order) (s .pre .below)
 
 returns : tie.Need-returns
 unfolding ringLength

@@ -20,7 +20,7 @@ abbrev μ-loop : tie.MeasureT-loop
 μ-loop q m ks₀ j₀ ks j = q - j
 
 counts : (s : tie.Start Inv-loop μ-loop) → Sides (s .args .q) (s .args .q)
-counts s = sides (s .args .q) (s .args .q) (s .pre .size) refl
+counts s = sides (s .args .q) (s .args .q) (s .pre .0) refl
 
 array-write-ks : tie.Need-array-write-ks Inv-loop μ-loop
 array-write-ks c =
