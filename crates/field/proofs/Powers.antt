@@ -3,6 +3,7 @@
 --   Generated d         the tests of that, which antt computes
 --   power-add           x^i · x^j = x^(i + j)
 --   power-round         x^(i + 2 ^ d − 1) = x^i
+--   power-inverse       x^i and x^(2 ^ d − 1 − i) are inverse to each other
 --   exponent d b        the exponent of a nonzero symbol; power-exponent: x to it is b; exponent-below
 --   over-times          division undoes the product
 --   over-unique         nothing else does
@@ -18,7 +19,7 @@ use lib.Dec.{T, eqb, leb, ltb, eqb→eq, leb→le, ltb→lt}
 use lib.ListN.{length, getD}
 use lib.Pow.{pow-pos, pow-mono}
 use borrow.Author.Tests.{eq-eqb, ne-eqb}
-use Rattle.field.specs.Symbols.{plus, modulus, timesX, times, quotientBelow, over}
+use Rattle.field.specs.Symbols.{plus, modulus, timesX, times, Quotient, quotientBelow, over}
 use Rattle.field.specs.Working.Tables.{power, powers, placeOf, Exponent}
 use Rattle.field.proofs.Sums.{plus-low}
 use Rattle.field.proofs.Products.{Tested, times-comm, times-assoc, times-below, one-times, x-times, allBelow, below}
@@ -126,6 +127,12 @@ module _ (d : ℕ) (𝓖 : Generated d) where
       ∙ sym (x-times d (𝓖 .tested) (times d (power d i) (power d j)) (times-below d (𝓖 .tested) (power d i) (power d j)))
       ∙ ap (timesX d) (power-add i j) ∙ ap (power d) (sym (suc-add i j))
 
+  pub power-inverse : (i : ℕ) → i ≤ 2 ^ d - 1 → Quotient d 1 (power d i) (power d (2 ^ d - 1 - i))
+  power-inverse i h = record {
+    symbol = power-below (2 ^ d - 1 - i);
+    undoes = power-add (2 ^ d - 1 - i) i ∙ ap (power d) (sub-add-cancel h) ∙ eqb→eq (power d (2 ^ d - 1)) 1 (𝓖 .round);
+  }
+
   pub power-round : (i : ℕ) → power d (i + (2 ^ d - 1)) ≡ power d i
   power-round i =
       sym (power-add i (2 ^ d - 1)) ∙ ap (times d (power d i)) (eqb→eq (power d (2 ^ d - 1)) 1 (𝓖 .round))
@@ -161,9 +168,7 @@ module _ (d : ℕ) (𝓖 : Generated d) where
   inverse b h n = (
     power d (2 ^ d - 1 - exponent d b),
     ap (times d (power d (2 ^ d - 1 - exponent d b))) (sym (power-exponent b h n))
-        ∙ power-add (2 ^ d - 1 - exponent d b) (exponent d b)
-        ∙ ap (power d) (sub-add-cancel (le-of-lt (exponent-below b h n)))
-        ∙ eqb→eq (power d (2 ^ d - 1)) 1 (𝓖 .round),
+        ∙ power-inverse (exponent d b) (le-of-lt (exponent-below b h n)) .undoes,
   )
 
   pub over-times : (a b : ℕ) → a < 2 ^ d → b < 2 ^ d → (b ≡ 0 → ⊥) → times d (over d a b) b ≡ a

@@ -1,3 +1,5 @@
 -- What inner contracts cite, and no promise.
 pub mod Tables
 pub mod Doublings
+pub mod Bits
+pub mod Inverses

@@ -3,24 +3,17 @@
 // is left over of a list goes by the table.
 ghost use mathlib.Core.Path.{_≡_};
 ghost use mathlib.Core.Bool.{false};
-ghost use Prim.Native.Nat.{ℕ, suc, _+_, _-_, _*_, _/_, _%_, _^_, _≤_, _<_};
+ghost use Prim.Native.Nat.{_+_, _%_, _^_, _≤_, _<_};
 ghost use lib.ListN.{length};
 ghost use Rattle.patch.specs.Patch.{patch};
 ghost use Rattle.refusal.specs.Refusal.{badDegree};
-ghost use Rattle.field.specs.Symbols.{plus, timesX, timesLow, times};
 ghost use Rattle.field.specs.Working.Tables.{IsTable};
-ghost use Rattle.lists.specs.Working.Combining.{combined, combinedBy, addedBy, fourCombined, Short, Reducer};
+ghost use Rattle.field.specs.Working.Bits.{Reducer};
+ghost use Rattle.lists.specs.Working.Combining.{combined, combinedBy, addedBy, fourCombined, Short};
 ghost use Rattle.lists.specs.Working.Lists.{SymbolsAt, Adding, Multiplying, scaledAt, addedAt, multipliedAt};
+use field::bits;
 use field::tables;
 use field::tables::Table;
-
-// A bit times a byte.
-fn masked(bit: u8, x: u8) -> u8
-    requires { ⌜ bit < 2 ⌝ }
-    ensures { λ r. ⌜ r ≡ bit * x ⌝ }
-{
-    if bit == 0 { 0 } else { x }
-}
 
 // Four doublings combined by the four low bits of a symbol, and what the higher bits gave.
 fn combine_four(r0: u8, r1: u8, r2: u8, r3: u8, s: u8, higher: u8) -> u8
@@ -29,7 +22,9 @@ fn combine_four(r0: u8, r1: u8, r2: u8, r3: u8, s: u8, higher: u8) -> u8
     let s1 = s / 2;
     let s2 = s1 / 2;
     let s3 = s2 / 2;
-    masked(s % 2, r0) ^ (masked(s1 % 2, r1) ^ (masked(s2 % 2, r2) ^ (masked(s3 % 2, r3) ^ higher)))
+    bits::masked(s % 2, r0)
+        ^ (bits::masked(s1 % 2, r1)
+            ^ (bits::masked(s2 % 2, r2) ^ (bits::masked(s3 % 2, r3) ^ higher)))
 }
 
 // The doublings combined by the bits of a symbol: by the four low ones alone where the doublings end with them.
@@ -127,53 +122,6 @@ pub fn scale(table: &Table, degree: u32, c: u8, s: &mut [u8], at: usize, n: usiz
     combine_all(degree, &r, s, at, n);
 }
 
-// x times a symbol.
-fn double(degree: u32, half: u8, low: u8, v: u8) -> u8
-    requires { ⌜ Reducer degree half low × (v < 2 ^ degree) ⌝ }
-    ensures { λ r. ⌜ r ≡ timesX degree v ⌝ }
-{
-    if v < half { v << 1 } else { (v << 1) ^ low }
-}
-
-// A bit of a product: the low bit of w times s, and x times the sum of the higher ones.
-fn bit_more(degree: u32, half: u8, low: u8, w: u8, s: u8, higher: u8) -> u8
-    requires { ⌜ Reducer degree half low ⌝ }
-    requires { ⌜ (s < 2 ^ degree) × (higher < 2 ^ degree) ⌝ }
-    ensures { λ r. ⌜ (r ≡ plus (w % 2 * s) (timesX degree higher)) × (r < 2 ^ degree) ⌝ }
-{
-    masked(w % 2, s) ^ double(degree, half, low, higher)
-}
-
-// Four bits of a product: those of w times s, and x^4 times the sum of the higher ones.
-fn four_more(degree: u32, half: u8, low: u8, w: u8, s: u8, higher: u8) -> u8
-    requires { ⌜ Reducer degree half low ⌝ }
-    requires { ⌜ (s < 2 ^ degree) × (higher < 2 ^ degree) ⌝ }
-    ensures { λ r.
-        ⌜ (r < 2 ^ degree)
-        × ((n : ℕ) → higher ≡ timesLow degree n (w / 2 / 2 / 2 / 2) s → r ≡ timesLow degree (suc (suc (suc (suc n)))) w s) ⌝ }
-{
-    let w1 = w / 2;
-    let w2 = w1 / 2;
-    let w3 = w2 / 2;
-    let v3 = bit_more(degree, half, low, w3, s, higher);
-    let v2 = bit_more(degree, half, low, w2, s, v3);
-    let v1 = bit_more(degree, half, low, w1, s, v2);
-    bit_more(degree, half, low, w, s, v1)
-}
-
-// The product of two symbols, bit by bit.
-fn product_by_bits(degree: u32, half: u8, low: u8, w: u8, s: u8) -> u8
-    requires { ⌜ Reducer degree half low ⌝ }
-    requires { ⌜ (w < 2 ^ degree) × (s < 2 ^ degree) ⌝ }
-    ensures { λ r. ⌜ r ≡ times degree w s ⌝ }
-{
-    if degree <= 4 {
-        return four_more(degree, half, low, w, s, 0);
-    }
-    let higher = four_more(degree, 128, low, w / 16, s, 0);
-    four_more(degree, 128, low, w, s, higher)
-}
-
 // Multiplies the part of s at `at`, each symbol with b added, by the symbols of w with a added.
 fn multiply_by_bits(degree: u32, half: u8, low: u8, w: &[u8], a: u8, s: &mut [u8], at: usize, b: u8)
     requires { ⌜ Reducer degree half low ⌝ }
@@ -182,7 +130,7 @@ fn multiply_by_bits(degree: u32, half: u8, low: u8, w: &[u8], a: u8, s: &mut [u8
 {
     let mut i = 0;
     while i < w.len() {
-        s[at + i] = product_by_bits(degree, half, low, w[i] ^ a, s[at + i] ^ b);
+        s[at + i] = bits::product_by_bits(degree, half, low, w[i] ^ a, s[at + i] ^ b);
         i += 1;
     }
 }

@@ -1,7 +1,8 @@
 -- `lists::combine` combines the doublings by the bits of the symbol.
 -- Assumes nothing.
 use mathlib.Core.Path.{sym}
-use Rattle.lists.proofs.Combined.{sixteenth, four-combined, combined-zero, combined-none}
+use Rattle.field.proofs.BitByBit.{sixteenth}
+use Rattle.lists.proofs.Combined.{four-combined, combined-zero, combined-none}
 use borrow.Author.Needs.{needs}
 use Rattle.lists.proofs.combine.Statement.{statement}
 use Rattle.lists.proofs.combine.Tie as tie

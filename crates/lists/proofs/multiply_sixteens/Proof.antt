@@ -4,7 +4,7 @@ use mathlib.Core.Path.{ap, _∙_}
 use Prim.Native.Nat.{ℕ, _/_}
 use native.Mathlib.Omega.{arith}
 use Rattle.refusal.proofs.Laws.{field-size, positive}
-use Rattle.lists.proofs.Combined.{half-size}
+use Rattle.field.proofs.BitByBit.{half-size}
 use borrow.Author.Needs.{needs}
 use Rattle.lists.proofs.multiply_sixteens.Statement.{statement}
 use Rattle.lists.proofs.multiply_sixteens.Tie as tie

@@ -4,14 +4,11 @@
 --   combinedBy, addedBy  what stands at a place combined; what stands there, and the combined symbol of another list
 --   fourCombined         four entries so, and what the higher bits gave
 --   Short d r            in a field of at most sixteen symbols r has nothing from the fifth entry on
---   Reducer d half low   what a doubling in a byte needs: a degree, the top bit of a symbol, and the polynomial's low eight bits
 use mathlib.Core.Path.{_≡_}
-use mathlib.Core.Bool.{false}
-use Prim.Native.Nat.{ℕ, zero, suc, _+_, _-_, _*_, _/_, _%_, _^_, _≤_}
+use Prim.Native.Nat.{ℕ, zero, suc, _+_, _*_, _/_, _%_, _≤_}
 use mathlib.Core.List.{List}
 use lib.ListN.{getD}
-use Rattle.refusal.specs.Refusal.{badDegree}
-use Rattle.field.specs.Symbols.{plus, modulus}
+use Rattle.field.specs.Symbols.{plus}
 
 -- the n low bits of s, for the entries of r from i on
 unfoldable pub combinedFrom : List ℕ → ℕ → ℕ → ℕ → ℕ
@@ -35,8 +32,3 @@ fourCombined r0 r1 r2 r3 s higher =
 
 abbrev pub Short : ℕ → List ℕ → Type 0
 Short d r = d ≤ 4 → (k : ℕ) → getD r (4 + k) 0 ≡ 0
-
-pub record Reducer (d half low : ℕ) : Type 0 where
-  pub degree : badDegree d ≡ false
-  pub top : half ≡ 2 ^ (d - 1)
-  pub rest : low ≡ modulus d % 256

@@ -1,10 +1,10 @@
--- `lists::four_more` takes four bits of a product.
+-- `field::bits::four_more` takes four bits of a product.
 -- Assumes nothing.
 use Prim.Native.Nat.{suc}
-use Rattle.lists.proofs.Combined.{low-step}
+use Rattle.field.proofs.BitByBit.{low-step}
 use borrow.Author.Needs.{needs}
-use Rattle.lists.proofs.four_more.Statement.{statement}
-use Rattle.lists.proofs.four_more.Tie as tie
+use Rattle.field.proofs.bits.four_more.Statement.{statement}
+use Rattle.field.proofs.bits.four_more.Tie as tie
 
 returns : tie.Need-returns
 returns c = (

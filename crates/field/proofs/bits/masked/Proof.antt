@@ -1,10 +1,10 @@
--- `lists::masked` is the bit times the byte.
+-- `field::bits::masked` is the bit times the byte.
 -- Assumes nothing.
 use mathlib.Core.Path.{_≡_, sym}
 use native.Mathlib.Nat.{zero-mul, one-mul}
 use native.Mathlib.Omega.{arith}
-use Rattle.lists.proofs.masked.Statement.{statement}
-use Rattle.lists.proofs.masked.Tie as tie
+use Rattle.field.proofs.bits.masked.Statement.{statement}
+use Rattle.field.proofs.bits.masked.Tie as tie
 
 returns : tie.Need-returns
 returns c = rw (c .if1 .taken) (sym (zero-mul _))

@@ -1,14 +1,14 @@
--- `lists::bit_more` adds a bit of a product.
+-- `field::bits::bit_more` adds a bit of a product.
 -- Assumes nothing.
 use mathlib.Core.Path.{ap₂}
 use lib.Bits.{bitXor}
 use Rattle.field.specs.Symbols.{plus}
 use Rattle.field.proofs.Sums.{plus-below}
 use Rattle.field.proofs.Instance.{tested}
-use Rattle.lists.proofs.Combined.{timesX-below, bit-below}
+use Rattle.field.proofs.BitByBit.{timesX-below, bit-below}
 use borrow.Author.Needs.{needs}
-use Rattle.lists.proofs.bit_more.Statement.{statement}
-use Rattle.lists.proofs.bit_more.Tie as tie
+use Rattle.field.proofs.bits.bit_more.Statement.{statement}
+use Rattle.field.proofs.bits.bit_more.Tie as tie
 
 returns : tie.Need-returns
 unfolding plus

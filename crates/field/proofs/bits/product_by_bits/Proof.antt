@@ -1,13 +1,13 @@
--- `lists::product_by_bits` is the product.
+-- `field::bits::product_by_bits` is the product.
 -- Assumes nothing.
 use mathlib.Core.Path.{refl, _∙_}
 use lib.Pow.{pow-pos}
 use Rattle.refusal.proofs.Laws.{up-to-eight}
-use Rattle.lists.specs.Working.Combining.{Reducer}
-use Rattle.lists.proofs.Combined.{eight, sixteenth, low-zero, low-times}
+use Rattle.field.specs.Working.Bits.{Reducer}
+use Rattle.field.proofs.BitByBit.{eight, sixteenth, low-zero, low-times}
 use borrow.Author.Needs.{needs}
-use Rattle.lists.proofs.product_by_bits.Statement.{statement}
-use Rattle.lists.proofs.product_by_bits.Tie as tie
+use Rattle.field.proofs.bits.product_by_bits.Statement.{statement}
+use Rattle.field.proofs.bits.product_by_bits.Tie as tie
 
 returns : tie.Need-returns
 returns c =

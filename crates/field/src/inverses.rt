@@ -1,0 +1,94 @@
+// The inverses of a field's symbols, worked out by repeated doubling, and what is made without a constant table: quotients by them, and
+// the doublings of a constant factor. Nothing above calls these yet.
+ghost use mathlib.Core.Path.{_≡_};
+ghost use mathlib.Core.Bool.{false};
+ghost use Prim.Native.Nat.{_^_, _<_};
+ghost use Rattle.refusal.specs.Refusal.{badDegree};
+ghost use Rattle.field.specs.Symbols.{over};
+ghost use Rattle.field.specs.Working.Doublings.{doublings};
+ghost use Rattle.field.specs.Working.Inverses.{Dividing, IsInverses, Powers};
+use crate::bits;
+use crate::tables;
+
+// How many inverses are lent, whichever the field.
+const LENT: usize = 256;
+
+// For the crates above: inverses to be lent, whichever the field.
+pub type Inverses = [u8; LENT];
+
+fn wide(a: u8) -> usize
+    ensures { λ r. ⌜ r ≡ a ⌝ }
+{
+    a as usize
+}
+
+// The powers of x, by repeated doubling: as many as the field has symbols.
+fn powers(degree: u32) -> Inverses
+    requires { ⌜ badDegree degree ≡ false ⌝ }
+    ensures { λ r. ⌜ Powers degree r ⌝ }
+{
+    let half = bits::half(degree);
+    let low = bits::low_bits(degree);
+    let count = tables::size(degree);
+    let mut powers = [0u8; LENT];
+    let mut p = 1u8;
+    let mut i = 0;
+    while i < count {
+        powers[i] = p;
+        p = bits::double(degree, half, low, p);
+        i += 1;
+    }
+    powers
+}
+
+// For the crates above: the inverses of a field, to be lent. With q symbols, x^i and x^(q − 1 − i) are inverse to each other.
+pub fn lend(degree: u32) -> Inverses
+    requires { ⌜ badDegree degree ≡ false ⌝ }
+    ensures { λ r. ⌜ IsInverses degree r ⌝ }
+{
+    let powers = powers(degree);
+    let last = tables::size(degree) - 1;
+    let mut table = [0u8; LENT];
+    let mut i = 0;
+    while i < last {
+        table[wide(powers[i])] = powers[last - i];
+        i += 1;
+    }
+    table
+}
+
+// For the crates above: the quotient of a symbol by one that is not zero, by lent inverses.
+pub fn quotient_by(inverses: &Inverses, degree: u32, a: u8, b: u8) -> u8
+    requires { ⌜ Dividing degree (now inverses) a b ⌝ }
+    ensures { λ r. ⌜ r ≡ over degree a b ⌝ }
+{
+    let inverse = inverses[wide(b)];
+    if a == 1 {
+        return inverse;
+    }
+    bits::product(degree, a, inverse)
+}
+
+// For the crates above: the doublings of a constant factor. They end with the degree.
+pub fn doublings(degree: u32, c: u8) -> [u8; 8]
+    requires { ⌜ badDegree degree ≡ false ⌝ }
+    requires { ⌜ c < 2 ^ degree ⌝ }
+    ensures { λ r. ⌜ r ≡ doublings degree c ⌝ }
+{
+    let half = bits::half(degree);
+    let low = bits::low_bits(degree);
+    let c1 = bits::double(degree, half, low, c);
+    if degree == 2 {
+        return [c, c1, 0, 0, 0, 0, 0, 0];
+    }
+    let c2 = bits::double(degree, half, low, c1);
+    let c3 = bits::double(degree, half, low, c2);
+    if degree == 4 {
+        return [c, c1, c2, c3, 0, 0, 0, 0];
+    }
+    let c4 = bits::double(degree, half, low, c3);
+    let c5 = bits::double(degree, half, low, c4);
+    let c6 = bits::double(degree, half, low, c5);
+    let c7 = bits::double(degree, half, low, c6);
+    [c, c1, c2, c3, c4, c5, c6, c7]
+}
