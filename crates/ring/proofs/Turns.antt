@@ -6,11 +6,10 @@
 --   cut-given               what carrying a sector asks, from what carrying all asks
 --   interpolated            the coefficients of a sector's polynomial, from the divided differences
 --   laid-none, sectors-step no sector laid; one behind the others
---   columns-ring, ring-made the columns of an array are q³ symbols, and carried they are its ring
 --   array-made              the columns of a ring, turned, are its array
 -- Assumes nothing.
 use mathlib.Core.Path.{_≡_, refl, sym, ap, ap₂, _∙_}
-use mathlib.Core.Bool.{Bool, true, false}
+use mathlib.Core.Bool.{false}
 use mathlib.Core.List.{List, _++_, flatMap}
 use Prim.Native.Nat.{ℕ, _+_, _-_, _*_, _≤_, _<_}
 use native.Mathlib.Numerals.{add-one}
@@ -18,21 +17,18 @@ use native.Mathlib.Omega.{arith}
 use lib.ListN.{length, take, drop, length-append, length-take}
 use Rattle.refusal.specs.Refusal.{badDegree}
 use Rattle.patch.specs.Parts.{part, lay}
-use Rattle.patch.proofs.Parts.{lay-none, lay-end, take-lay, lay-append}
-use Rattle.field.specs.Symbols.{IsSymbol}
+use Rattle.patch.proofs.Parts.{lay-none, take-lay, lay-append}
 use Rattle.field.specs.Arithmetic.{gf}
 use Rattle.field.proofs.Instance.{field}
-use Rattle.poly.specs.Poly.{All, valuesAt}
 use Rattle.poly.proofs.Forms.{reduce, fromNewton}
-use Rattle.poly.proofs.Values.{length-values}
 use Rattle.rows.proofs.Reduced.{reduced-front}
-use Rattle.hermitian.specs.Ring.{numbers, sector, IsRing, column, ringOf, ArrayOf}
+use Rattle.hermitian.specs.Ring.{numbers, sector, IsRing, ArrayOf}
 use Rattle.hermitian.specs.Checks.{badSize}
 use Rattle.ring.specs.Working.{sectorOf, sectorsOf, SectorGiven, SectorsGiven}
-use Rattle.hermitian.proofs.Numbers.{flat-more, flat-cong, all-flat, length-flat, part-flat, part-fits, turned, length-turned, part-turned}
+use Rattle.hermitian.proofs.Numbers.{flat-more, length-flat, part-flat, part-fits, turned}
 use Rattle.hermitian.proofs.Sizes.{Sides, sides, tested, sectors}
-use Rattle.hermitian.proofs.Rings.{ring-field, coefficients, coefficients-poly, symbols-column, symbols-sector, length-sector}
-use Rattle.hermitian.proofs.Rings.{columnsOf, columns-length, arrayOf, is-ring, is-array, array-exactly}
+use Rattle.hermitian.proofs.Rings.{coefficients, coefficients-poly, symbols-sector, length-sector}
+use Rattle.hermitian.proofs.Rings.{columnsOf, columns-length, arrayOf, is-array, array-exactly}
 
 pub record Turn (q n x : ℕ) : Type 0 where
   pub sides : Sides q n
@@ -69,10 +65,6 @@ module _ (f : ℕ → List ℕ) (r n x : ℕ) (sized : (y : ℕ) → y < n → l
       ∙ rw (is, ← here) (lay-append 0 u (f x) l room)
       ∙ ap (λ (v : List ℕ). lay 0 v l) (sym (flat-more f x) ∙ ap (λ (k : ℕ). flatMap f (numbers k)) (sym (add-one x)))
 
--- laid over a list that is as long
-laid-whole : (v l : List ℕ) → length v ≡ length l → lay 0 v l ≡ v
-laid-whole v l e = sym (lay-end 0 v l (omega arith))
-
 module _ (q : ℕ) (size : badSize q ≡ false) where
   pub all-y : {ys : List ℕ} → ys ≡ flatMap (sector q) (numbers (q * q)) → length ys ≡ q * q * q
   all-y e = ap length e ∙ length-flat q (sector q) (q * q) (λ y k. sectors q size y k .size)
@@ -81,16 +73,10 @@ module _ (q : ℕ) (size : badSize q ≡ false) where
   pub y-room : (r : List ℕ) → take (q * q * q) r ≡ flatMap (sector q) (numbers (q * q)) → q * q * q ≤ length r
   y-room r e = omega (arith, length-take (q * q * q) r, all-y e)
 
-  sector-length : (b : Bool) (x : ℕ) (v : List ℕ) → x < q * q → length v ≡ q → All (IsSymbol q) v
-      → length (sectorOf b q (sector q x) v) ≡ q
-  unfolding coefficients
-  sector-length false x v below count symbols = length-values (gf q) (ring-field q size) (sector q x) v ∙ sectors q size x below .size
-  sector-length true x v below count symbols = coefficients-poly q size x below v count symbols .count
-
 -- the coefficients, from the divided differences worked out in the front of a list
 pub interpolated : (q at : ℕ) → badDegree q ≡ false → (ys v l s : List ℕ) → length ys ≡ q → length v ≡ q → q ≤ length l
     → {held us r : List ℕ} → held ≡ lay 0 v l → us ≡ lay 0 (reduce (gf q) (length v) ys (part 0 (length ys) held)) held
-    → r ≡ lay at (fromNewton (gf q) (length (take (length v) us)) ys (take (length v) us)) s → r ≡ lay at (sectorOf true q ys v) s
+    → r ≡ lay at (fromNewton (gf q) (length (take (length v) us)) ys (take (length v) us)) s → r ≡ lay at (sectorOf q ys v) s
 interpolated q at degree ys v l s points count fits stored reduced laid =
     laid ∙ ap (λ (u : List ℕ). lay at u s)
     (reduced-front q (field q degree) (length v) ys v l (omega arith) (omega arith) (omega arith) stored reduced
@@ -104,11 +90,9 @@ module _ {q n x : ℕ} (t : Turn q n x) {table ys w l : List ℕ} (h : SectorsGi
   pub cut-given : {s : List ℕ} → length s ≡ length l → SectorGiven q table (cut n x ys) (cut n x w) s (x * n)
   cut-given {s} long =
       let p = sectors q (h .size) x (t .below) in
-      let b = sides q q (h .size) refl in
       rw (sector-cut, cut-is t w) (record {
         degree = tested q (h .size) .degree;
-        some = b .some;
-        side = b .side;
+        side = sides q q (h .size) refl .side;
         table = h .table;
         points = p .points;
         ordinates = p .size;
@@ -117,37 +101,19 @@ module _ {q n x : ℕ} (t : Turn q n x) {table ys w l : List ℕ} (h : SectorsGi
         room = omega (arith, t .end, t .count, h .room);
       })
 
-  pub sectors-step : (b : Bool) {s r : List ℕ} → s ≡ lay 0 (sectorsOf b q x w) l → r ≡ lay (x * n) (sectorOf b q (cut n x ys) (cut n x w)) s
-      → r ≡ lay 0 (sectorsOf b q (x + 1) w) l
-  sectors-step b {s} is then =
-      laid-step (λ y. sectorOf b q (sector q y) (part (y * q) q w)) q (q * q) x
-      (λ y k. sector-length q (h .size) b y (part (y * q) q w) k (length-sector q (h .size) y w k (h .ring .count))
-      (symbols-sector q y w (h .ring .symbols)))
+  pub sectors-step : {s r : List ℕ} → s ≡ lay 0 (sectorsOf q x w) l → r ≡ lay (x * n) (sectorOf q (cut n x ys) (cut n x w)) s
+      → r ≡ lay 0 (sectorsOf q (x + 1) w) l
+  unfolding coefficients
+  sectors-step {s} is then =
+      laid-step (λ y. sectorOf q (sector q y) (part (y * q) q w)) q (q * q) x
+      (λ y k. coefficients-poly q (h .size) y k (part (y * q) q w) (length-sector q (h .size) y w k (h .ring .count))
+      (symbols-sector q y w (h .ring .symbols)) .count)
       (t .below) l (h .room) is
-      (then ∙ ap₂ (λ (i : ℕ) (v : List ℕ). lay i v s) (ap (_*_ x) (t .count)) (ap₂ (sectorOf b q) sector-cut (cut-is t w)))
+      (then ∙ ap₂ (λ (i : ℕ) (v : List ℕ). lay i v s) (ap (_*_ x) (t .count)) (ap₂ (sectorOf q) sector-cut (cut-is t w)))
 
 module _ {q n : ℕ} (size : badSize q ≡ false) (count : n ≡ q) {w : List ℕ} (h : IsRing q w) (z : List ℕ) (fits : q * q * q ≤ length z)
     {c : List ℕ} where
-  module _ (is : c ≡ lay 0 (turned n (n * n) w) z) where
-    -- the columns of the array, at the front
-    turned-front : take (length w) c ≡ turned q (q * q) w
-    turned-front =
-        take-lay (turned q (q * q) w) z (rw count at is) (length-turned q (q * q) w ∙ sym (h .count)) (omega (arith, h .count))
-
-    pub columns-ring : IsRing q (take (length w) c)
-    columns-ring = rw turned-front (record {
-      count = length-turned q (q * q) w;
-      symbols = all-flat (IsSymbol q) (column q (q * q) w) (q * q) (λ x k. symbols-column q q (q * q) w x (h .symbols));
-    })
-
-    pub ring-made : (l : List ℕ) → length l ≡ q * q * q → {r : List ℕ} → r ≡ lay 0 (sectorsOf false q (q * q) (take (length w) c)) l
-        → r ≡ ringOf q w
-    ring-made l e then =
-        let same : sectorsOf false q (q * q) (take (length w) c) ≡ ringOf q w = unfold ringOf in flat-cong _ _ (q * q)
-        (λ x k. ap (valuesAt (gf q) (sector q x)) (ap (part (x * q) q) turned-front ∙ part-turned q (q * q) w x k)) in
-        then ∙ ap (λ (v : List ℕ). lay 0 v l) same ∙ laid-whole (ringOf q w) l (is-ring q size h .count ∙ sym e)
-
-  pub array-made : c ≡ lay 0 (sectorsOf true q (q * q) w) z → {a : List ℕ} → a ≡ lay 0 (turned (n * n) n (take (length w) c)) z
+  pub array-made : c ≡ lay 0 (sectorsOf q (q * q) w) z → {a : List ℕ} → a ≡ lay 0 (turned (n * n) n (take (length w) c)) z
       → ArrayOf q w (take (length w) a)
   unfolding coefficients columnsOf arrayOf
   array-made is then =

@@ -2,24 +2,28 @@
 --
 --   Row q m j                 H(m) has a row j
 --   Turnable r n from to      from has r rows of n symbols, at most 16 of each, and in to there is room for them
---   sectorOf b q ys v         for b = false the values at the points ys of the polynomial v, else the polynomial with these values
---   sectorsOf b q n w         the same of the first n sectors of w, at their y
+--   sectorOf q ys v           the polynomial that has the values v at the points ys
+--   sectorsOf q n w           the same of the first n sectors of w, at their y
+--   columnAdded q a at s i    the i-th symbol of s, and of the row in a from `at` on that of its sector's column
+--   rowAdded q a at s         s when all of that row is added
 --   SectorGiven q t ys v s at q ≤ 4 symbols v at q points ys, the field's table t, and room in s from `at` on
 --   SectorsGiven q t ys w s   q³ symbols w, their y, the field's table t, and room in s
+--   RowGiven q a at s         a row in a from `at` on, and q³ symbols s
 --   RingGiven q w             q³ symbols
 --   ArrayGiven q a w          q³ symbols, and as much room for their ring
 --   AnswerGiven e q a w       the same on `corrected`
 use mathlib.Core.Path.{_≡_}
-use mathlib.Core.Bool.{Bool, true, false}
+use mathlib.Core.Bool.{false}
 use mathlib.Core.List.{List, flatMap}
-use Prim.Native.Nat.{ℕ, _+_, _*_, _<_, _≤_}
-use lib.ListN.{length}
+use Prim.Native.Nat.{ℕ, _+_, _*_, _/_, _<_, _≤_}
+use lib.ListN.{length, getD}
 use Rattle.refusal.specs.Refusal.{badDegree}
+use Rattle.patch.specs.Patch.{patch}
 use Rattle.patch.specs.Parts.{part}
-use Rattle.field.specs.Symbols.{IsSymbol}
+use Rattle.field.specs.Symbols.{IsSymbol, plus}
 use Rattle.field.specs.Arithmetic.{gf}
 use Rattle.field.specs.Working.Tables.{IsTable}
-use Rattle.poly.specs.Poly.{All, valuesAt}
+use Rattle.poly.specs.Poly.{All}
 use Rattle.poly.proofs.Forms.{fromNewton, reduce}
 use Rattle.rows.specs.Working.Rows.{Points}
 use Rattle.ending.specs.declared.Ending.{Ending}
@@ -39,16 +43,20 @@ pub record Turnable (r n : ℕ) (from to : List ℕ) : Type 0 where
   pub count : length from ≡ r * n
   pub room : n * r ≤ length to
 
-abbrev pub sectorOf : Bool → ℕ → List ℕ → List ℕ → List ℕ
-sectorOf false q ys v = valuesAt (gf q) ys v
-sectorOf true q ys v = fromNewton (gf q) q ys (reduce (gf q) q ys v)
+abbrev pub sectorOf : ℕ → List ℕ → List ℕ → List ℕ
+sectorOf q ys v = fromNewton (gf q) q ys (reduce (gf q) q ys v)
 
-abbrev pub sectorsOf : Bool → ℕ → ℕ → List ℕ → List ℕ
-sectorsOf b q n w = flatMap (λ x. sectorOf b q (sector q x) (part (x * q) q w)) (numbers n)
+abbrev pub sectorsOf : ℕ → ℕ → List ℕ → List ℕ
+sectorsOf q n w = flatMap (λ x. sectorOf q (sector q x) (part (x * q) q w)) (numbers n)
+
+unfoldable pub columnAdded : ℕ → List ℕ → ℕ → List ℕ → ℕ → ℕ
+columnAdded q a at s i = plus (getD s i 0) (getD a (at + i / q) 0)
+
+abbrev pub rowAdded : ℕ → List ℕ → ℕ → List ℕ → List ℕ
+rowAdded q a at s = patch 0 (length s) (columnAdded q a at s) s
 
 pub record SectorGiven (q : ℕ) (t ys v s : List ℕ) (at : ℕ) : Type 0 where
   pub degree : badDegree q ≡ false
-  pub some : 0 < q
   pub side : q ≤ 4
   pub table : IsTable q t
   pub points : Points q ys
@@ -63,6 +71,11 @@ pub record SectorsGiven (q : ℕ) (t ys w s : List ℕ) : Type 0 where
   pub ordinates : ys ≡ flatMap (sector q) (numbers (q * q))
   pub ring : IsRing q w
   pub room : q * q * q ≤ length s
+
+pub record RowGiven (q : ℕ) (a : List ℕ) (at : ℕ) (s : List ℕ) : Type 0 where
+  pub size : badSize q ≡ false
+  pub row : at + q * q ≤ length a
+  pub room : length s ≡ q * q * q
 
 pub record RingGiven (q : ℕ) (w : List ℕ) : Type 0 where
   pub size : badSize q ≡ false

@@ -43,7 +43,7 @@ carry-sectors-requires c κs =
 array-share-prefix-columns : tie.Need-array-share-prefix-columns
 array-share-prefix-columns c =
     let d = begun (c .before .before) in
-    omega (arith, c .before .carry-sectors .kept .1 .1 .1 .1 .1 .0, start d .pre .ring .count, counts d)
+    omega (arith, c .before .carry-sectors .kept .1 .1 .1 .1 .0, start d .pre .ring .count, counts d)
 
 turn-requires : tie.Need-turn-requires
 turn-requires c κs =

@@ -1,4 +1,4 @@
--- `carry::carry_sector` takes the values of a polynomial, or works out the divided differences in an array of its own.
+-- `carry::carry_sector` works out the divided differences in an array of its own.
 -- Assumes nothing.
 use mathlib.Core.Path.{_≡_, sym}
 use native.Mathlib.Omega.{arith}
@@ -10,24 +10,14 @@ use borrow.Author.Needs.{needs}
 use Rattle.ring.proofs.carry.carry_sector.Statement.{statement}
 use Rattle.ring.proofs.carry.carry_sector.Tie as tie
 
-abbrev start : tie.Else1 → tie.Start
-start c = c .before .before .before .before
-
 abbrev begun : tie.After-store → tie.Start
-begun c = c .before .before .before .before .before .before
+begun c = c .before .before .before .before .before
 
 abbrev stored : tie.After-reduce → tie.After-store
 stored c = c .before .before .before
 
 abbrev reduced : tie.After-coefficients → tie.After-reduce
 reduced c = c .before .before .before .before
-
-values-requires : tie.Need-values-requires
-values-requires c κs =
-    let p = start (c .before) .pre in (
-      (p .degree, p .table),
-      ((p .points .symbols, p .symbols), (omega (arith, p), omega (arith, p), omega (arith, p))),
-    )
 
 reduce-requires : tie.Need-reduce-requires
 reduce-requires c κs =
@@ -54,17 +44,13 @@ coefficients-requires c κs =
     length-take-le _ _ (array-share-prefix-us (c .before .before)) in
     ((p .degree, p .table, p .points .symbols), (omega (arith, p), omega (arith, p), omega (arith, p)))
 
-returns-2 : tie.Need-returns-2
-returns-2 c = rw (c .before .before .before .before .if1 .left) (c .before .before .values .ensures)
-
 returns : tie.Need-returns
 returns c =
     let r = reduced (c .before .before) in
     let s = begun (stored r) in
     let p = s .pre in
-    rw (stored r .before .before .if1 .taken) (interpolated (s .args .q) (s .args .at) (p .degree) (s .args .ys .now) (s .args .v .now)
-    (replicate 4 0) (s .args .s .now) (p .ordinates) (p .count) (p .side) (stored r .store .ensures) (r .reduce .ensures)
-    (c .before .before .coefficients .ensures))
+    interpolated (s .args .q) (s .args .at) (p .degree) (s .args .ys .now) (s .args .v .now) (replicate 4 0) (s .args .s .now)
+    (p .ordinates) (p .count) (p .side) (stored r .store .ensures) (r .reduce .ensures) (c .before .before .coefficients .ensures)
 
 pub carry-sector-spec : {M : Type 1} → statement M
 carry-sector-spec =
@@ -77,8 +63,5 @@ carry-sector-spec =
     array-share-prefix-us
     (λ c. sym (length-take-le _ _ (array-share-prefix-us (c .before))))
     coefficients-requires
-    values-requires
     (λ c. search needs)
-    returns
-    (λ c. search needs)
-    returns-2)
+    returns)

@@ -1,7 +1,6 @@
 -- `carry::carry_sectors` lays each sector behind the sector before.
 -- Assumes nothing.
 use mathlib.Core.Path.{_≡_, refl, _∙_}
-use mathlib.Core.Bool.{Bool}
 use mathlib.Core.List.{List}
 use Prim.Native.Nat.{ℕ, _-_, _*_, _≤_}
 use native.Mathlib.Omega.{arith}
@@ -15,17 +14,17 @@ use Rattle.ring.proofs.carry.carry_sectors.Statement.{statement}
 use Rattle.ring.proofs.carry.carry_sectors.Tie as tie
 
 -- the first x sectors are laid
-record Laid (b : Bool) (q n : ℕ) (from to₀ to : List ℕ) (x : ℕ) : Type 0 where
+record Laid (q n : ℕ) (from to₀ to : List ℕ) (x : ℕ) : Type 0 where
   inside : x ≤ q * q
   count : n ≡ q
   long : length to ≡ length to₀
-  laid : to ≡ lay 0 (sectorsOf b q x from) to₀
+  laid : to ≡ lay 0 (sectorsOf q x from) to₀
 
 abbrev Inv-loop : tie.InvT-loop
-Inv-loop b table q ys from to₀ n x₀ to x = Laid b q n from to₀ to x
+Inv-loop table q ys from to₀ n x₀ to x = Laid q n from to₀ to x
 
 abbrev μ-loop : tie.MeasureT-loop
-μ-loop b table q ys from to₀ n x₀ to x = q * q - x
+μ-loop table q ys from to₀ n x₀ to x = q * q - x
 
 abbrev start : tie.At-loop Inv-loop μ-loop → tie.Start Inv-loop μ-loop
 start c = c .before .before .before .before .before
@@ -46,8 +45,8 @@ loop-again c =
     record {
       inside = omega (arith, t .below);
       count = t .count;
-      long = c .before .before .carry-sector .kept .1 .1 .1 .1 .1 .0 ∙ d .before .loop .inv .long;
-      laid = sectors-step t (s .pre) (s .args .coefficients) (d .before .loop .inv .laid) (c .before .before .carry-sector .ensures);
+      long = c .before .before .carry-sector .kept .1 .1 .1 .1 .0 ∙ d .before .loop .inv .long;
+      laid = sectors-step t (s .pre) (d .before .loop .inv .laid) (c .before .before .carry-sector .ensures);
     }
 
 returns : tie.Need-returns Inv-loop μ-loop
