@@ -7,3 +7,4 @@ pub mod Flags
 pub mod Columns
 pub mod Right
 pub mod Lost
+pub mod Factors

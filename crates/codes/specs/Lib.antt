@@ -2,3 +2,4 @@ pub mod Code
 pub mod Lost
 pub mod Checks
 pub mod Near
+pub mod Factors
