@@ -1,4 +1,5 @@
 pub mod Rows
+pub mod Shifted
 pub mod Locators
 pub mod Division
 pub mod Multiples
