@@ -4,6 +4,7 @@
 --   fits-shift            y + f(x) for y: N + E·f fits where N did
 --   encoded-add           the code array of a sum
 --   locator-shift         a locator of y is one of y and a code array
+--   core-add              the remaining columns of a sum
 --   differs-shift         in which columns two arrays differ, and in which their sums with a third do
 --   shifted d a e left    on 'corrected' the answer with a added, else as it was
 --   ends-shift            so does the decoding of the sum end
@@ -16,7 +17,7 @@ use Prim.Native.Nat.{ℕ, zero, suc, _+_, _*_, _≤_}
 use native.Mathlib.Omega.{arith}
 use native.Mathlib.Decide.{ℕ-discrete}
 use lib.Dec.{eqb}
-use lib.ListN.{length, getD, take, drop, length-drop}
+use lib.ListN.{length, getD, take, drop, length-take, length-drop}
 use lib.Seq.{take-at, drop-at}
 use borrow.Author.Tests.{eq-eqb, ne-eqb}
 use Rattle.field.specs.Symbols.{plus}
@@ -28,6 +29,7 @@ use Rattle.poly.proofs.Sums.{length-add, symbols-add, add-nil, add-comm, add-as
 use Rattle.poly.proofs.Products.{mul-add}
 use Rattle.poly.proofs.Values.{value-add, value-mul, length-values}
 use Rattle.codes.specs.Code.{Code, columns, rows, total, IsMessage, IsArray, encodedRows, encoded, differs, differsAt, flagsOf}
+use Rattle.codes.specs.Lost.{lostFlags, right, rightRows, coreOf}
 use Rattle.codes.proofs.Flags.{flags-same}
 use Rattle.codes.proofs.Parts.{all-map, all-drop, poly-take, row-length, rest-length}
 use Rattle.codes.proofs.Proper.{Proper}
@@ -88,6 +90,38 @@ module _ {K : Type 0} (A : Arithmetic K) (𝓕 : Field A) where
     count = omega (arith, length-add A 𝓕 p q, h .count, g .count);
     symbols = symbols-add A 𝓕 p q (h .symbols) (g .symbols);
   }
+
+  -- of the entries at which fs is zero
+  right-length : (fs : List ℕ) (p q : List K) → length p ≡ length q → length (right fs p) ≡ length (right fs q)
+  unfolding right
+  right-length [] p q e = refl
+  right-length (f ∷ fs) [] [] e = refl
+  right-length (f ∷ fs) [] (b ∷ q) e = absurd (omega arith)
+  right-length (f ∷ fs) (a ∷ p) [] e = absurd (omega arith)
+  right-length (zero ∷ fs) (a ∷ p) (b ∷ q) e = ap suc (right-length fs p q (omega arith))
+  right-length (suc f ∷ fs) (a ∷ p) (b ∷ q) e = right-length fs p q (omega arith)
+
+  right-add : (fs : List ℕ) (p q : List K) → length p ≡ length q → right fs (add A p q) ≡ add A (right fs p) (right fs q)
+  unfolding right add
+  right-add [] p q e = refl
+  right-add (f ∷ fs) [] [] e = refl
+  right-add (f ∷ fs) [] (b ∷ q) e = absurd (omega arith)
+  right-add (f ∷ fs) (a ∷ p) [] e = absurd (omega arith)
+  right-add (zero ∷ fs) (a ∷ p) (b ∷ q) e = ap (λ (l : List K). (a ⊕ b) ∷ l) (right-add fs p q (omega arith))
+  right-add (suc f ∷ fs) (a ∷ p) (b ∷ q) e = right-add fs p q (omega arith)
+
+  right-rows-add : (fs : List ℕ) (n r : ℕ) (y a : List K) → length y ≡ length a
+      → rightRows fs n r (add A y a) ≡ add A (rightRows fs n r y) (rightRows fs n r a)
+  unfolding rightRows add
+  right-rows-add fs n zero y a e = refl
+  right-rows-add fs n (suc r) y a e =
+      let first : length (take n y) ≡ length (take n a) = omega (arith, length-take n y, length-take n a) in
+      ap₂ _++_
+      (ap (right fs) (take-add n y a) ∙ right-add fs (take n y) (take n a) first)
+      (ap (rightRows fs n r) (drop-add n y a)
+      ∙ right-rows-add fs n r (drop n y) (drop n a) (omega (arith, length-drop n y, length-drop n a)))
+      ∙ sym (add-append (right fs (take n y)) (rightRows fs n r (drop n y)) (right fs (take n a)) (rightRows fs n r (drop n a))
+      (right-length fs (take n y) (take n a) first))
 
   fits-shift : (xs ys E N f : List K) → length ys ≡ length xs → Fits A xs ys E N
       → Fits A xs (add A ys (valuesAt A xs f)) E (add A N (mul A E f))
@@ -224,6 +258,9 @@ module _ {c : Code} (p : Proper c) where
   pub encoded-add : (m m′ : List ℕ) → encoded c (m ⊞ m′) ≡ encoded c m ⊞ encoded c m′
   encoded-add = encoded-rows-add (gf degree) 𝓕 points lengths
 
+  pub core-add : (L y a : List ℕ) → length y ≡ length a → coreOf c L (y ⊞ a) ≡ coreOf c L y ⊞ coreOf c L a
+  core-add L = right-rows-add (gf degree) 𝓕 (lostFlags (columns c) L) (columns c) (rows c)
+
   pub flags-shift : (y b a : List ℕ) → flagsOf c (y ⊞ a) (b ⊞ a) ≡ flagsOf c y b
   flags-shift y b a = flags-same (differsAt c (y ⊞ a) (b ⊞ a)) (differsAt c y b) (columns c)
       (λ i h. differs-shift degree 𝓕 (rows c) (columns c) i y b a)
@@ -260,20 +297,26 @@ module _ {c : Code} (p : Proper c) where
       divides-shift : (t : ℕ) (E f : List ℕ) → Poly (gf degree) (suc t) E → Divides c y t E f → Divides c (y ⊞ a) t E (f ⊞ m)
       divides-shift t E f e = divide-shift (gf degree) 𝓕 points t E lengths y f m e some (i .count) (h .count) (h .symbols)
 
-      corrects-shift : {τ w : ℕ} {left : Buffers} → Corrects c y τ w left
-          → Corrects c (y ⊞ a) τ w (record { array = left .array ⊞ a; flags = left .flags })
-      corrects-shift {τ} {w} {left} k = record {
+      -- z is the sum
+      pub corrects-shift : {z : List ℕ} → z ≡ y ⊞ a → {τ w : ℕ} {left : Buffers} → Corrects c y τ w left
+          → Corrects c z τ w (record { array = left .array ⊞ a; flags = left .flags })
+      corrects-shift {z} e {τ} {w} {left} k = record {
         t = k .t;
-        least = least-shift (k .least);
+        least = rw e (least-shift (k .least));
         E = k .E;
-        only = only-shift (k .only);
+        only = rw e (only-shift (k .only));
         m = k .m ⊞ m;
         message = is-message-sum (k .message) h;
-        divides = divides-shift (k .t) (k .E) (k .m) (k .only .one .size) (k .divides);
+        divides = rw e (divides-shift (k .t) (k .E) (k .m) (k .only .one .size) (k .divides));
         array = ap (λ (b : List ℕ). b ⊞ a) (k .array) ∙ sym (encoded-add (k .m) m);
-        flags = k .flags ∙ sym (flags-shift y (left .array) a);
-        detail = k .detail ∙ ap total (sym (flags-shift y (left .array) a));
+        flags = rw e (k .flags ∙ sym (flags-shift y (left .array) a));
+        detail = rw e (k .detail ∙ ap total (sym (flags-shift y (left .array) a)));
       }
+
+      pub message-shift : {z : List ℕ} (e : z ≡ y ⊞ a) {τ w : ℕ} {left : Buffers} (k : Corrects c y τ w left)
+          → corrects-shift e k .m ≡ k .m ⊞ m
+      unfolding corrects-shift
+      message-shift e k = refl
 
     undivided-shift : {y : List ℕ} → IsArray c y → {t : ℕ} → DividesNot c y t → DividesNot c (y ⊞ a) t
     undivided-shift {y} i {t} n = record {
@@ -287,7 +330,7 @@ module _ {c : Code} (p : Proper c) where
     pub ends-shift : {y : List ℕ} → IsArray c y → (τ : ℕ) (lent : Buffers) (e : Ending) (left : Buffers)
         → Ends c y τ lent e left → Ends c (y ⊞ a) τ lent e (shifted degree a e left)
     ends-shift i τ lent (Refused k) left d = d
-    ends-shift i τ lent (Corrected w) left d = corrects-shift i d
+    ends-shift i τ lent (Corrected w) left d = corrects-shift i refl d
     ends-shift i τ lent Nothing left (none, kept) = (λ t E k l. none t E k (unshift i l), kept)
     ends-shift i τ lent (Several t) left (l, two, kept) = (
       least-shift i l,

@@ -4,6 +4,6 @@ pub mod Lost
 pub mod Halves
 pub mod Promised
 pub mod Unique
-pub mod Shifted
 pub mod Demands
 pub mod LostDemands
+pub mod Shifted
