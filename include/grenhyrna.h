@@ -1,7 +1,7 @@
 /* Grenhyrna: marks struck on bar ends, encoded, read and decoded. C99 and C++.
  *
  * Every function is proved to do what is said here for every input: it ends, it reads and writes nothing but the buffers lent, and
- * it needs no set-up. Link libfirmware.a (x86-64); of its host it needs memcpy and memset alone, and less than 26 KB of stack (read
+ * it needs no set-up. Link libfirmware.a (x86-64); of its host it needs memcpy and memset alone, and less than 25 KB of stack (read
  * off the compiled code, and not proved).
  *
  * A code is a field GF(2^degree), columns distinct points (one a column), and rows message lengths k (one a row), each at least 1

@@ -13,8 +13,7 @@ use native.Mathlib.Omega.{arith}
 use lib.ListN.{length, getD, set}
 use lib.Seq.{getD-set-same, getD-set-other}
 use Rattle.field.specs.Symbols.{times, over, Quotient}
-use Rattle.field.specs.Working.Tables.{power}
-use Rattle.field.specs.Working.Inverses.{IsInverses}
+use Rattle.field.specs.Working.Tables.{power, IsTable}
 use Rattle.field.proofs.Products.{times-comm, times-assoc, times-below, one-times}
 use Rattle.field.proofs.Powers.{Generated, power-inverse, exponent, exponent-below, power-exponent, over-unique}
 
@@ -48,8 +47,8 @@ module _ (d : ℕ) (𝓖 : Generated d) where
       go (yes e) = rw (e, getD-set-same t b w 0 room) inverse
       go (no n) = rw (getD-set-other t b (power d j) w 0 n) (before j (earlier n (ℕ-discrete j i)))
 
-  pub inverted-all : (t : List ℕ) → Inverted d (2 ^ d - 1) t → IsInverses d t
-  unfolding IsInverses
+  pub inverted-all : (t : List ℕ) → Inverted d (2 ^ d - 1) t → IsTable d t
+  unfolding IsTable
   inverted-all t all b h n =
       subst (λ (x : ℕ). Quotient d 1 x (getD t x 0)) (power-exponent d 𝓖 b h n) (all (exponent d b) (exponent-below d 𝓖 b h n))
 

@@ -6,5 +6,4 @@ pub mod Powers
 pub mod Inverting
 pub mod Doublings
 pub mod Instance
-pub mod Reading
 pub mod Promised

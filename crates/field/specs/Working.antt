@@ -2,4 +2,3 @@
 pub mod Tables
 pub mod Doublings
 pub mod Bits
-pub mod Inverses

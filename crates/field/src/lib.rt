@@ -1,6 +1,5 @@
 // Symbols of GF(4), GF(16) and GF(256): sum, product and quotient.
 pub mod bits;
-pub mod inverses;
 pub mod tables;
 
 ghost use mathlib.Core.Path.{_≡_};
@@ -49,8 +48,7 @@ pub fn product(degree: u32, a: u8, b: u8) -> Value
     if k != 0 {
         return Value::Refused(k);
     }
-    let table = tables::lend(degree);
-    Value::Symbol(tables::product_from(&table, degree, a, b))
+    Value::Symbol(bits::product(degree, a, b))
 }
 
 // The quotient of two symbols; refusals 1, 7 and 25, a zero divisor.

@@ -5,3 +5,4 @@ pub mod Words
 pub mod Sectors
 pub mod Passed
 pub mod Figures
+pub mod Kernel

@@ -9,21 +9,21 @@
 --   column-same                  columns are equal exactly when their symbols are
 --   turned r n a                 r rows of n numbers as n rows of r
 --   part-turned, column-turned   its rows were the columns, and its columns were the rows
---   turned-at, turned-twice      what stands in it; turned again it is what it was
+--   turned-twice                 turned again it is what it was
 -- Assumes nothing.
 use mathlib.Core.Path.{_≡_, refl, sym, ap, ap₂, _∙_, subst}
 use mathlib.Core.Logic.{_↔_}
 use mathlib.Core.List.{List, [], _∷_, _++_, map, flatMap, append-assoc}
-use Prim.Native.Nat.{ℕ, zero, suc, _+_, _*_, _/_, _%_, _≤_, _<_}
-use native.Mathlib.Nat.{zero-mul, suc-mul, mul-le-mul-right, mod-lt, div-add-mod', div-lt-iff-lt-mul}
+use Prim.Native.Nat.{ℕ, zero, suc, _+_, _*_, _≤_, _<_}
+use native.Mathlib.Nat.{zero-mul, suc-mul, mul-le-mul-right}
 use native.Mathlib.Decide.{ℕ-discrete}
 use native.Mathlib.Omega.{arith}
 use lib.ListN.{length, getD, take, drop, length-append, length-drop, length-map, List·getD-append}
 use lib.Seq.{length-take-le, take-add, take-all, take-append-le, drop-append-le, drop-at, getD-at, getD-drop, ext-getD}
 use Rattle.patch.specs.Patch.{patch}
-use Rattle.patch.specs.Parts.{part, lay}
+use Rattle.patch.specs.Parts.{part}
 use Rattle.patch.proofs.Laws.{length-patch, getD-patch-front}
-use Rattle.patch.proofs.Parts.{length-part, getD-part, patch-is-lay}
+use Rattle.patch.proofs.Parts.{length-part, getD-part}
 use Rattle.poly.specs.Poly.{All}
 use Rattle.codes.proofs.Parts.{all-append}
 use Rattle.hermitian.specs.Ring.{numbers, column}
@@ -175,26 +175,6 @@ module _ (r n : ℕ) (a : List ℕ) where
   place : (x j : ℕ) → x < n → j < r → getD (turned r n a) (x * r + j) 0 ≡ getD a (j * n + x) 0
   place x j h k =
       sym (getD-part (x * r) r (turned r n a) j k) ∙ ap (λ (l : List ℕ). getD l j 0) (part-turned x h) ∙ column-at r n a x j k
-
-  -- what stands at a place
-  pub turned-at : (i : ℕ) → 0 < r → i < n * r → getD (turned r n a) i 0 ≡ getD a (i % r * n + i / r) 0
-  turned-at i p h =
-      ap (λ (k : ℕ). getD (turned r n a) k 0) (sym (div-add-mod' i r))
-      ∙ place (i / r) (i % r) (div-lt-iff-lt-mul p .1 h) (mod-lt i p)
-
-  -- the place is within the array
-  pub turned-fits : (i : ℕ) → 0 < r → i < n * r → (i % r * n + i / r < r * n) × (i / r < n) × (i % r < r)
-  turned-fits i p h =
-      let d : i / r < n = div-lt-iff-lt-mul p .1 h in
-      let e : i % r < r = mod-lt i p in
-      (omega (arith, part-fits n r (i % r) e), d, e)
-
-  -- a turn of the loop that works it out, and its end
-  abbrev pub entry : ℕ → ℕ
-  entry i = getD (turned r n a) i 0
-
-  pub turned-whole : (l : List ℕ) {s : List ℕ} → s ≡ patch 0 (n * r) entry l → s ≡ lay 0 (turned r n a) l
-  turned-whole l is = is ∙ patch-is-lay 0 (n * r) entry (turned r n a) l length-turned (λ k h. refl)
 
   pub column-turned : (j : ℕ) → j < r → length a ≡ r * n → column n r (turned r n a) j ≡ part (j * n) n a
   column-turned j h e =

@@ -1,2 +1,2 @@
 pub mod Combined
-pub mod InParts
+pub mod Turns

@@ -1,6 +1,6 @@
-// The inner loops of the layers above: a constant times a part of a slice, the same added to another part, and the products
-// of two parts, symbol by symbol. Sixteens are worked out by bits, with no table to look up, so that these loops vectorise; what
-// is left over of a list goes by the table.
+// The inner loops of the layers above: a constant times a part of a slice, the same added to another part or one place further on,
+// and the sums and products of two parts, symbol by symbol. All are worked out by bits, so that these loops vectorise: they are quickest
+// for lists of whole sixteens, and callers round up where they can.
 ghost use mathlib.Core.Path.{_≡_};
 ghost use mathlib.Core.Bool.{false};
 ghost use Prim.Native.Nat.{_+_, _%_, _^_, _≤_, _<_};
@@ -9,8 +9,8 @@ ghost use Rattle.patch.specs.Patch.{patch};
 ghost use Rattle.refusal.specs.Refusal.{badDegree};
 ghost use Rattle.field.specs.Working.Tables.{IsTable};
 ghost use Rattle.field.specs.Working.Bits.{Reducer};
-ghost use Rattle.lists.specs.Working.Combining.{combined, combinedBy, addedBy, fourCombined, Short};
-ghost use Rattle.lists.specs.Working.Lists.{SymbolsAt, Adding, Multiplying, scaledAt, addedAt, multipliedAt};
+ghost use Rattle.lists.specs.Working.Combining.{combined, combinedBy, addedBy, carriedBy, fourCombined, Short};
+ghost use Rattle.lists.specs.Working.Lists.{SymbolsAt, Multiplying, summedAt, scaledAt, addedAt, carriedAt, multipliedAt};
 use field::bits;
 use field::tables;
 use field::tables::Table;
@@ -54,6 +54,19 @@ fn add_combined(degree: u32, r: &[u8; 8], w: &[u8], s: &mut [u8], at: usize)
     }
 }
 
+// Adds to each of n symbols of s from `at` on the combined symbol behind it.
+fn carry_combined(degree: u32, r: &[u8; 8], s: &mut [u8], at: usize, n: usize)
+    requires { ⌜ Short degree (now r) ⌝ }
+    requires { ⌜ at + n < length (now s) ⌝ }
+    ensures { λ _. ⌜ now (s .exit) ≡ patch at n (carriedBy (now (r .entry)) (now (s .entry)) at) (now (s .entry)) ⌝ }
+{
+    let mut i = 0;
+    while i < n {
+        s[at + i] = s[at + i] ^ combine(degree, r, s[at + (i + 1)]);
+        i += 1;
+    }
+}
+
 // Combines the part of s at `at`, n symbols, in place.
 fn combine_all(degree: u32, r: &[u8; 8], s: &mut [u8], at: usize, n: usize)
     requires { ⌜ Short degree (now r) ⌝ }
@@ -67,36 +80,14 @@ fn combine_all(degree: u32, r: &[u8; 8], s: &mut [u8], at: usize, n: usize)
     }
 }
 
-// Adds c times the symbols of w to the part of s at `at`, by doublings: for lists of whole sixteens.
-fn add_sixteens(table: &Table, degree: u32, c: u8, w: &[u8], s: &mut [u8], at: usize)
-    requires { ⌜ IsTable degree (now table) ⌝ }
-    requires { ⌜ Adding degree c (now w) (now s) at ⌝ }
-    ensures { λ _. ⌜ now (s .exit) ≡ addedAt degree c (now (w .entry)) (now (s .entry)) at ⌝ }
-{
-    if w.len() == 0 {
-        return;
-    }
-    let r = tables::doublings_from(table, degree, c);
-    add_combined(degree, &r, w, s, at);
-}
-
-// The bits of a byte that a symbol has.
-fn symbol_of(degree: u32, x: u8) -> u8
-    requires { ⌜ badDegree degree ≡ false ⌝ }
-    ensures { λ r. ⌜ r ≡ x % 2 ^ degree ⌝ }
-{
-    (x as usize % tables::size(degree)) as u8
-}
-
-// The same, from the table: quicker for a few symbols.
-fn add_few(table: &Table, degree: u32, c: u8, w: &[u8], s: &mut [u8], at: usize)
-    requires { ⌜ IsTable degree (now table) ⌝ }
-    requires { ⌜ Adding degree c (now w) (now s) at ⌝ }
-    ensures { λ _. ⌜ now (s .exit) ≡ addedAt degree c (now (w .entry)) (now (s .entry)) at ⌝ }
+// For the crates above: adds the symbols of w to the part of s at `at`.
+pub fn add(w: &[u8], s: &mut [u8], at: usize)
+    requires { ⌜ at + length (now w) ≤ length (now s) ⌝ }
+    ensures { λ _. ⌜ now (s .exit) ≡ summedAt (now (w .entry)) (now (s .entry)) at ⌝ }
 {
     let mut i = 0;
     while i < w.len() {
-        s[at + i] = s[at + i] ^ tables::product_from(table, degree, symbol_of(degree, w[i]), c);
+        s[at + i] = s[at + i] ^ w[i];
         i += 1;
     }
 }
@@ -107,9 +98,18 @@ pub fn add_times(table: &Table, degree: u32, c: u8, w: &[u8], s: &mut [u8], at: 
     requires { ⌜ at + length (now w) ≤ length (now s) ⌝ }
     ensures { λ _. ⌜ now (s .exit) ≡ addedAt degree c (now (w .entry)) (now (s .entry)) at ⌝ }
 {
-    let many = w.len() / 16 * 16;
-    add_sixteens(table, degree, c, &w[..many], s, at);
-    add_few(table, degree, c, &w[many..], s, at + many);
+    let r = tables::doublings_from(table, degree, c);
+    add_combined(degree, &r, w, s, at);
+}
+
+// For the crates above: adds to each of n symbols of s from `at` on c times the one behind it, quickest for whole sixteens.
+pub fn carry_times(table: &Table, degree: u32, c: u8, s: &mut [u8], at: usize, n: usize)
+    requires { ⌜ (badDegree degree ≡ false) × IsTable degree (now table) × (c < 2 ^ degree) ⌝ }
+    requires { ⌜ at + n < length (now s) ⌝ }
+    ensures { λ _. ⌜ now (s .exit) ≡ carriedAt degree c (now (s .entry)) at n ⌝ }
+{
+    let r = tables::doublings_from(table, degree, c);
+    carry_combined(degree, &r, s, at, n);
 }
 
 // For the crates above: the part of s at `at`, n symbols, becomes c times what it was.
@@ -135,59 +135,15 @@ fn multiply_by_bits(degree: u32, half: u8, low: u8, w: &[u8], a: u8, s: &mut [u8
     }
 }
 
-// The same, from the table: quicker for a few symbols.
-fn multiply_few(table: &Table, degree: u32, w: &[u8], a: u8, s: &mut [u8], at: usize, b: u8)
-    requires { ⌜ IsTable degree (now table) ⌝ }
-    requires { ⌜ Multiplying degree (now w) a (now s) at b ⌝ }
-    ensures { λ _. ⌜ now (s .exit) ≡ multipliedAt degree (now (w .entry)) a (now (s .entry)) at b ⌝ }
-{
-    let mut i = 0;
-    while i < w.len() {
-        s[at + i] = tables::product_from(table, degree, w[i] ^ a, s[at + i] ^ b);
-        i += 1;
-    }
-}
-
-// For the crates above: the same, bit by bit, for lists of whole sixteens.
-pub fn multiply_sixteens(
-    table: &Table,
-    degree: u32,
-    w: &[u8],
-    a: u8,
-    s: &mut [u8],
-    at: usize,
-    b: u8,
-)
-    requires { ⌜ IsTable degree (now table) ⌝ }
-    requires { ⌜ Multiplying degree (now w) a (now s) at b ⌝ }
-    ensures { λ _. ⌜ now (s .exit) ≡ multipliedAt degree (now (w .entry)) a (now (s .entry)) at b ⌝ }
-{
-    let half = (tables::size(degree) / 2) as u8;
-    let low = tables::low_bits_from(table, degree);
-    multiply_by_bits(degree, half, low, w, a, s, at, b);
-}
-
-// The same, where an empty list is to cost nothing.
-fn multiply_front(table: &Table, degree: u32, w: &[u8], a: u8, s: &mut [u8], at: usize, b: u8)
-    requires { ⌜ IsTable degree (now table) ⌝ }
-    requires { ⌜ Multiplying degree (now w) a (now s) at b ⌝ }
-    ensures { λ _. ⌜ now (s .exit) ≡ multipliedAt degree (now (w .entry)) a (now (s .entry)) at b ⌝ }
-{
-    if w.len() == 0 {
-        return;
-    }
-    multiply_sixteens(table, degree, w, a, s, at, b);
-}
-
-// For the crates above: multiplies the part of s at `at`, each symbol with b added, by the symbols of w with a added; sixteens bit
-// by bit, and what is left over from the table.
+// For the crates above: multiplies the part of s at `at`, each symbol with b added, by the symbols of w with a added; quickest for
+// lists of whole sixteens.
 pub fn multiply(table: &Table, degree: u32, w: &[u8], a: u8, s: &mut [u8], at: usize, b: u8)
     requires { ⌜ (badDegree degree ≡ false) × IsTable degree (now table) × (a < 2 ^ degree) × (b < 2 ^ degree) ⌝ }
     requires { ⌜ at + length (now w) ≤ length (now s) ⌝ }
     requires { ⌜ SymbolsAt degree (now w) 0 (length (now w)) × SymbolsAt degree (now s) at (length (now w)) ⌝ }
     ensures { λ _. ⌜ now (s .exit) ≡ multipliedAt degree (now (w .entry)) a (now (s .entry)) at b ⌝ }
 {
-    let many = w.len() / 16 * 16;
-    multiply_front(table, degree, &w[..many], a, s, at, b);
-    multiply_few(table, degree, &w[many..], a, s, at + many, b);
+    let half = (tables::size(degree) / 2) as u8;
+    let low = tables::low_bits_from(table, degree);
+    multiply_by_bits(degree, half, low, w, a, s, at, b);
 }

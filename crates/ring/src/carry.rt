@@ -1,53 +1,57 @@
 // From an array to its ring, and back.
 ghost use mathlib.Core.Path.{_≡_};
 ghost use mathlib.Core.Bool.{false};
-ghost use mathlib.Core.List.{flatMap};
 ghost use Prim.Native.Nat.{_*_, _/_};
 ghost use lib.ListN.{length, take};
-ghost use Rattle.patch.specs.Parts.{lay};
-ghost use Rattle.hermitian.specs.Ring.{ArrayOf, column, numbers, ringOf};
+ghost use Rattle.hermitian.specs.Ring.{ArrayOf, ringOf};
 ghost use Rattle.hermitian.specs.Checks.{badSize};
-ghost use Rattle.ring.specs.Working.{ArrayGiven, RingGiven, RowGiven, SectorGiven, SectorsGiven, Turnable};
-ghost use Rattle.ring.specs.Working.{rowAdded, sectorOf, sectorsOf};
+ghost use Rattle.hermitian.proofs.Kernel.{Summed};
+ghost use Rattle.ring.specs.Working.{ArrayGiven, RingGiven, RowGiven, SectorGiven, SectorsGiven, SumGiven, Holds};
+ghost use Rattle.ring.specs.Working.{rowAdded, rowSummed, sectorSum};
 use crate::shape;
 use field::tables;
 use field::tables::Table;
 
-// The columns of r rows of n symbols, one after the other.
-fn turn(r: usize, n: usize, from: &[u8], to: &mut [u8])
-    requires { ⌜ Turnable r n (now from) (now to) ⌝ }
-    ensures { λ _. ⌜ now (to .exit) ≡ lay 0 (flatMap (column r n (now (from .entry))) (numbers n)) (now (to .entry)) ⌝ }
+// The sum of the symbols of sector x.
+fn sector_sum(q: u32, v: &[u8], x: usize) -> u8
+    requires { ⌜ SectorGiven q (now v) x ⌝ }
+    ensures { λ r. ⌜ r ≡ sectorSum q (now (v .entry)) x ⌝ }
 {
-    let mut i = 0;
-    while i < from.len() {
-        to[i] = from[i % r * n + i / r];
-        i += 1;
+    if q == 2 {
+        return v[2 * x] ^ v[2 * x + 1];
     }
+    v[4 * x] ^ v[4 * x + 1] ^ v[4 * x + 2] ^ v[4 * x + 3]
 }
 
-// In s from `at` on, the coefficients of the polynomial that has the values v at the points ys.
-fn carry_sector(table: &Table, q: u32, ys: &[u8], v: &[u8], s: &mut [u8], at: usize)
-    requires { ⌜ SectorGiven q (now table) (now ys) (now v) (now s) at ⌝ }
-    ensures { λ _. ⌜ now (s .exit) ≡ lay at (sectorOf q (now (ys .entry)) (now (v .entry))) (now (s .entry)) ⌝ }
-{
-    let mut us = [0u8; 4];
-    rows::store(v, &mut us, 0);
-    rows::reduce(table, q, ys, v.len(), &mut us, 0);
-    rows::coefficients(table, q, ys, &us[..v.len()], s, at);
-}
-
-// The same sector after sector, at the y of each.
-fn carry_sectors(table: &Table, q: u32, ys: &[u8], from: &[u8], to: &mut [u8])
-    requires { ⌜ SectorsGiven q (now table) (now ys) (now from) (now to) ⌝ }
-    ensures { λ _. ⌜ now (to .exit) ≡ lay 0 (sectorsOf q (q * q) (now (from .entry))) (now (to .entry)) ⌝ }
+// The sums of the sectors of v, as the array's row at `at`.
+fn sum_row(q: u32, v: &[u8], array: &mut [u8], at: usize)
+    requires { ⌜ SumGiven q (now v) at (now array) ⌝ }
+    ensures { λ _. ⌜ now (array .exit) ≡ rowSummed q (now (v .entry)) at (now (array .entry)) ⌝ }
 {
     let n = shape::side(q);
     let mut x = 0;
     while x < n * n {
-        let at = x * n;
-        carry_sector(table, q, &ys[at..at + n], &from[at..at + n], to, at);
+        array[at + x] = sector_sum(q, v, x);
         x += 1;
     }
+}
+
+// The array of a ring from its last row to its first, v beginning with a copy of the ring: the sums of the sectors, multiplied by y
+// from row to row, and in the first row the ring added.
+fn carry_sums(table: &Table, q: u32, ys: &[u8], ring: &[u8], v: &mut [u8], array: &mut [u8])
+    requires { ⌜ SectorsGiven q (now table) (now ys) (now ring) (now array) ⌝ }
+    requires { ⌜ Holds q (now ring) (now v) ⌝ }
+    ensures { λ _. ⌜ Summed q (now (ring .entry)) (now (array .exit)) ⌝ }
+{
+    let n = shape::side(q);
+    let mut j = n - 1;
+    while 0 < j {
+        sum_row(q, v, array, j * (n * n));
+        lists::multiply(table, q, ys, 0, v, 0, 0);
+        j -= 1;
+    }
+    lists::add(ring, v, 0);
+    sum_row(q, v, array, 0);
 }
 
 // The sector of a place; a division by a constant is quicker than one by q.
@@ -102,12 +106,11 @@ pub(crate) fn array_of(q: u32, ring: &[u8]) -> [u8; 64]
     requires { ⌜ RingGiven q (now ring) ⌝ }
     ensures { λ r. ⌜ ArrayOf q (now (ring .entry)) (take (length (now (ring .entry))) r) ⌝ }
 {
-    let n = shape::side(q);
     let table = tables::lend(q);
     let ys = shape::ordinates(q);
-    let mut columns = [0u8; 64];
-    carry_sectors(&table, q, &ys[..ring.len()], ring, &mut columns);
+    let mut held = [0u8; 64];
+    rows::store(ring, &mut held, 0);
     let mut array = [0u8; 64];
-    turn(n * n, n, &columns[..ring.len()], &mut array);
+    carry_sums(&table, q, &ys[..ring.len()], ring, &mut held, &mut array);
     array
 }

@@ -4,3 +4,4 @@ pub mod Sharing
 pub mod Evaluation
 pub mod Newton
 pub mod Reduced
+pub mod Pieces

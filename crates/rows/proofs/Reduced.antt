@@ -4,7 +4,6 @@
 --   newton-take         only the first k Newton coefficients count
 --   reduced-newton, reduced-rest    the row's reduced values stand at the front: the polynomial of the first k; those behind
 --   held-front, held-rest    the same where the row was laid there, and reduced then
---   reduced-front       the polynomial where nothing behind the row was written
 -- Assumes nothing.
 use mathlib.Core.Path.{_≡_, refl, sym, ap, _∙_}
 use mathlib.Core.List.{List, [], _∷_}
@@ -13,7 +12,7 @@ use native.Mathlib.Omega.{arith}
 use lib.ListN.{length, take, drop}
 use lib.Seq.{length-take-le, take-nil, take-take}
 use Rattle.patch.specs.Parts.{part, lay}
-use Rattle.patch.proofs.Parts.{length-lay, take-lay}
+use Rattle.patch.proofs.Parts.{take-lay}
 use Rattle.field.specs.Arithmetic.{Arithmetic, gf}
 use Rattle.field.proofs.Laws.{Field}
 use Rattle.poly.proofs.Forms.{reduce, fromNewton}
@@ -52,14 +51,3 @@ module _ (d k : ℕ) (xs row l s : List ℕ) {held : List ℕ} (size : length ro
 
   pub held-rest : {n : ℕ} → n ≡ length xs → take (n - k) (drop k s) ≡ drop k (reduce (gf d) k xs row)
   held-rest = reduced-rest d k xs row s size held-front
-
-pub reduced-front : (d : ℕ) → Field (gf d) → (k : ℕ) (xs row l : List ℕ) {held s : List ℕ} → length row ≡ length xs
-    → length xs ≤ length l → k ≤ length xs → held ≡ lay 0 row l → s ≡ lay 0 (reduce (gf d) k xs (part 0 (length xs) held)) held
-    → fromNewton (gf d) (length (take k s)) xs (take k s) ≡ fromNewton (gf d) k xs (reduce (gf d) k xs row)
-unfolding part
-reduced-front d 𝓕 k xs row l {held} {s} size fits most is reduced =
-    let n : ℕ = length xs in
-    let long : length held ≡ length l = ap length is ∙ length-lay 0 row l in
-    let u : List ℕ = reduce (gf d) k xs (take n held) in
-    let count : length u ≡ n = length-reduce (gf d) 𝓕 k xs (take n held) (length-take-le n held (omega arith)) in
-    reduced-newton d k xs row s size (held-front d k xs row l s size fits is (take-lay u held reduced count (omega arith))) 𝓕 most

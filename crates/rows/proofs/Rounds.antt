@@ -2,13 +2,8 @@
 --
 --   divisor, divisor-symbol    the difference of two points is not zero, and a symbol
 --   times-inverse   a product with an inverse is a quotient
---   later-symbols, inverse-symbol, inverse-symbols    what a round multiplies are symbols
---   round-multiplied    and it works out differences
---   reduce-more     one round more
---   round-of-row, one-more    the same as a patch of the row
---   round-step      the same of a row that lies in a list
---   round-symbols   after some rounds the row still has symbols
---   Reducing        what k rounds of such a row ask for; next-round, round-done: one of them
+--   inverse-symbol  what a round multiplies by are symbols
+--   reduce-more     one round more; round-of-row, one-more, the same as a patch of the row
 --   take-patch, take-patch-beyond    the front of a list of which a part in it, or beyond its end, is written
 --   front-step, front-symbols    a round that may go on behind the row: the row, and that all are still symbols
 -- Assumes nothing.
@@ -23,21 +18,20 @@ use native.Mathlib.Omega.{arith}
 use lib.ListN.{length, getD, set, take, drop, length-drop}
 use lib.Seq.{getD-drop, take-set-le, take-set-lt}
 use Rattle.patch.specs.Patch.{patch}
-use Rattle.patch.specs.Parts.{part, lay}
+use Rattle.patch.specs.Parts.{part}
 use Rattle.patch.proofs.Laws.{patch-cong}
-use Rattle.patch.proofs.Parts.{length-part, getD-part, length-lay, lay-end, part-lay, patch-is-lay, patch-lay}
+use Rattle.patch.proofs.Parts.{getD-part, lay-end, patch-is-lay}
 use Rattle.refusal.specs.Refusal.{badDegree}
 use Rattle.field.specs.Symbols.{plus, times, over}
 use Rattle.lists.specs.Working.Lists.{multiplied, SymbolsAt}
 use Rattle.field.specs.Arithmetic.{gf}
-use Rattle.field.specs.Working.Tables.{Lent}
 use Rattle.field.proofs.Instance.{field}
 use Rattle.poly.proofs.Forms.{apart, reduce}
 use Rattle.poly.proofs.Ring.{plus-apart, plus-zero, over-unique, times-over, one-times}
 use Rattle.poly.proofs.Roots.{Mem, Distinct}
-use Rattle.poly.proofs.Differences.{length-apart, length-reduce, symbols-reduce}
-use Rattle.rows.specs.Working.Rows.{Points, RoundInverses, Round, inverse, difference, differencesAt}
-use Rattle.rows.proofs.Symbols.{symbol-at, symbol-patch, symbols-part, symbols-lay}
+use Rattle.poly.proofs.Differences.{length-apart, length-reduce}
+use Rattle.rows.specs.Working.Rows.{Points, inverse, difference}
+use Rattle.rows.proofs.Symbols.{symbol-at, symbol-patch}
 
 mem-at : (x : ℕ) (xs : List ℕ) (i : ℕ) → i < length xs → x ≡ getD xs i 0 → Mem x xs
 mem-at x [] i h e = absurd (omega arith)
@@ -110,25 +104,6 @@ module _ (d : ℕ) (good : badDegree d ≡ false) where
       let size : length v ≡ length xs = ap length is ∙ length-reduce (gf d) (field d good) j xs us e in
       round-of-row j xs v size h ∙ rw (is, add-one) (sym (reduce-more j xs us e h))
 
-  round-step : (at j : ℕ) (xs us l : List ℕ) {s t : List ℕ} → length us ≡ length xs → j < length xs → at + length xs ≤ length l
-      → s ≡ lay at (reduce (gf d) j xs us) l
-      → t ≡ patch (at + (j + 1)) (length xs - (j + 1)) (difference d xs (part at (length xs) s) j) s
-      → t ≡ lay at (reduce (gf d) (j + 1) xs us) l
-  round-step at j xs us l {s} {t} e h fits is then =
-      let v : List ℕ = reduce (gf d) j xs us in
-      let size : length v ≡ length xs = length-reduce (gf d) (field d good) j xs us e in
-      let row : part at (length xs) s ≡ v = rw (is, ← size) (part-lay at v l (omega arith)) in
-      then ∙ rw (row, is)
-      (patch-lay at (j + 1) (length xs - (j + 1)) (difference d xs v j) v l (omega arith) (omega arith)
-      ∙ ap (λ (r : List ℕ). lay at r l) (one-more j xs us e h refl))
-
-  round-symbols : (at j : ℕ) (xs l : List ℕ) {s : List ℕ} → at + length xs ≤ length l → SymbolsAt d l at (length xs)
-      → s ≡ lay at (reduce (gf d) j xs (part at (length xs) l)) l → SymbolsAt d s at (length xs)
-  round-symbols at j xs l fits symbols is =
-      let us : List ℕ = part at (length xs) l in
-      symbols-lay d at (reduce (gf d) j xs us) l is (length-reduce (gf d) (field d good) j xs us (length-part at (length xs) l fits)) fits
-      (symbols-reduce (gf d) (field d good) j xs us (symbols-part d at (length xs) l fits symbols))
-
   pub inverse-symbol : (xs : List ℕ) (j i : ℕ) → inverse d xs j i < 2 ^ d
   unfolding inverse
   inverse-symbol xs j i = field d good .over-in _ _
@@ -150,48 +125,6 @@ module _ (d : ℕ) (good : badDegree d ≡ false) (at j : ℕ) (xs l w : List �
       ap (λ (v : ℕ). times d (plus v 0) u) (each i k)
       ∙ times-inverse d good u y u-in y-in (divisor d good xs j (j + 1 + i) points (omega arith) (omega arith))
       ∙ rw (getD-part at (length xs) l (j + 1 + i) (omega arith), getD-part at (length xs) l j h, add-assoc at (j + 1) i)
-
--- w being the inverses
-module _ {d : ℕ} {table xs : List ℕ} {j : ℕ} {w l : List ℕ} {at : ℕ} (given : Round d table xs j w l at) where
-  pub later-symbols : SymbolsAt d l (at + (j + 1)) (length w)
-  later-symbols i k = rw (add-assoc at (j + 1) i) (given .symbols (j + 1 + i) (omega (arith, given .inverses .count)))
-
-  pub inverse-symbols : SymbolsAt d w 0 (length w)
-  inverse-symbols i k =
-      rw (zero-add i, given .inverses .each i (omega (arith, given .inverses .count))) (inverse-symbol d (given .lent .degree) xs j i)
-
-  pub round-multiplied : {t : List ℕ} → t ≡ patch (at + (j + 1)) (length w) (multiplied d w 0 l (at + (j + 1)) (getD l (at + j) 0)) l
-      → t ≡ differencesAt d xs j l at
-  round-multiplied then =
-      let is = multiplied-is d (given .lent .degree) at j xs l w (given .place) (given .points) (given .symbols) (given .inverses .each) in
-      then ∙ rw (given .inverses .count) (patch-cong (at + (j + 1)) (length xs - (j + 1)) _ _ l is)
-
--- k rounds of the row of l from at on
-pub record Reducing (d : ℕ) (t xs : List ℕ) (k : ℕ) (l : List ℕ) (at : ℕ) : Type 0 where
-  pub lent : Lent d t
-  pub points : Points d xs
-  pub rounds : k ≤ length xs
-  pub few : length xs ≤ 96
-  pub room : at + length xs ≤ length l
-  pub symbols : SymbolsAt d l at (length xs)
-
-module _ {d : ℕ} {table xs : List ℕ} {k : ℕ} {l : List ℕ} {at : ℕ} (given : Reducing d table xs k l at)
-    {j : ℕ} (more : j < k) {s : List ℕ} (is : s ≡ lay at (reduce (gf d) j xs (part at (length xs) l)) l) where
-  pub next-round : {w : List ℕ} → RoundInverses d xs j w → Round d table xs j w s at
-  next-round inverses = record {
-    lent = given .lent;
-    points = given .points;
-    place = omega (arith, given .rounds);
-    room = rw (is, length-lay) (given .room);
-    symbols = round-symbols d (given .lent .degree) at j xs l (given .room) (given .symbols) is;
-    inverses = inverses;
-  }
-
-  pub round-done : {t : List ℕ} → t ≡ differencesAt d xs j s at → t ≡ lay at (reduce (gf d) (j + 1) xs (part at (length xs) l)) l
-  round-done then =
-      let row : List ℕ = part at (length xs) l in
-      round-step d (given .lent .degree) at j xs row l (length-part at (length xs) l (given .room)) (omega (arith, given .rounds))
-      (given .room) is then
 
 take-patch : (n at m : ℕ) (f : ℕ → ℕ) (l : List ℕ) → at + m ≤ n → take n (patch at m f l) ≡ patch at m f (take n l)
 unfolding patch

@@ -1,6 +1,5 @@
 -- Inverses that are taken once for several rows.
 --
---   front-inverses    the inverses of a round, as the front of a list
 --   no-rounds, more-rounds    the table of all rounds begins empty, and takes a round
 --   length-lent, lent-symbols, lent-inverses    what it has of a round, and what is behind that
 --   Sharing, Shared d xs l j s    what k rounds by lent inverses ask for, and what j of them leave
@@ -19,7 +18,7 @@ use lib.ListN.{length, getD, take, drop, length-drop}
 use lib.Pow.{pow-pos}
 use lib.Seq.{length-take-le, getD-take, getD-drop}
 use Rattle.patch.specs.Patch.{patch}
-use Rattle.patch.proofs.Laws.{length-patch, getD-patch, getD-patch-below, getD-patch-front}
+use Rattle.patch.proofs.Laws.{length-patch, getD-patch, getD-patch-below}
 use Rattle.refusal.specs.Refusal.{badDegree}
 use Rattle.field.specs.Symbols.{IsSymbol}
 use Rattle.field.specs.Arithmetic.{gf}
@@ -27,20 +26,11 @@ use Rattle.field.specs.Working.Tables.{Lent}
 use Rattle.lists.specs.Working.Lists.{multipliedAt, SymbolsAt, Multiplying}
 use Rattle.poly.specs.Poly.{All}
 use Rattle.poly.proofs.Forms.{reduce}
-use Rattle.rows.specs.Working.Rows.{Points, RoundInverses, Inverses, inverse}
+use Rattle.rows.specs.Working.Rows.{Points, Inverses, inverse}
 use Rattle.rows.proofs.Symbols.{symbol-at, symbols-by, symbol-patch}
 use Rattle.rows.proofs.Rounds.{inverse-symbol, front-step, front-symbols}
 
 module _ (d : ℕ) (xs : List ℕ) where
-  pub front-inverses : (j : ℕ) (l : List ℕ) {w : List ℕ} → w ≡ patch 0 (length xs - (j + 1)) (inverse d xs j) l
-      → length xs ≤ length l → RoundInverses d xs j (take (length xs - (j + 1)) w)
-  front-inverses j l {w} is fits =
-      let long : length w ≡ length l = rw is (length-patch 0 (inverse d xs j) l (length xs - (j + 1))) in
-      record {
-        count = length-take-le (length xs - (j + 1)) w (omega arith);
-        each = λ i h. getD-patch-front (length xs - (j + 1)) (inverse d xs j) l is (omega arith) i 0 h;
-      }
-
   pub no-rounds : (ws : List ℕ) → All (IsSymbol d) ws → Inverses d xs 0 ws
   no-rounds ws symbols = record { room = omega arith; symbols = symbols; each = λ j i h k. absurd (let z : j < 0 = h in omega arith) }
 

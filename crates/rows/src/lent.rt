@@ -42,7 +42,7 @@ pub fn reduce(table: &Table, degree: u32, points: &[u8], k: usize, ws: &[u8], s:
         let from = 96 * j;
         let whole = (points.len() - (j + 1) + 15) / 16 * 16;
         let b = s[j];
-        lists::multiply_sixteens(table, degree, &ws[from..from + whole], 0, s, j + 1, b);
+        lists::multiply(table, degree, &ws[from..from + whole], 0, s, j + 1, b);
         j += 1;
     }
 }

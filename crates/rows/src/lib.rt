@@ -3,19 +3,17 @@
 ghost use mathlib.Core.Path.{_≡_};
 ghost use mathlib.Core.Bool.{true, false};
 ghost use mathlib.Core.Logic.{_↔_};
-ghost use Prim.Native.Nat.{ℕ, _+_, _-_, _^_, _≤_, _<_};
+ghost use Prim.Native.Nat.{ℕ, _+_, _-_, _≤_, _<_};
 ghost use lib.ListN.{length};
 ghost use Rattle.patch.specs.Patch.{patch};
-ghost use Rattle.patch.specs.Parts.{part, lay};
+ghost use Rattle.patch.specs.Parts.{lay};
 ghost use Rattle.refusal.specs.Refusal.{badDegree};
 ghost use Rattle.field.specs.Symbols.{IsSymbol};
 ghost use Rattle.field.specs.Arithmetic.{gf};
 ghost use Rattle.field.specs.Working.Tables.{IsTable};
-ghost use Rattle.lists.specs.Working.Lists.{SymbolsAt};
 ghost use Rattle.poly.specs.Poly.{All, valuesAt};
-ghost use Rattle.poly.proofs.Forms.{lin, reduce, fromNewton};
-ghost use Rattle.rows.specs.Working.Rows.{Points, Inverting, Linear, Round};
-ghost use Rattle.rows.specs.Working.Rows.{invertedAt, differencesAt, constantAdded, newtonValues};
+ghost use Rattle.poly.proofs.Forms.{fromNewton};
+ghost use Rattle.rows.specs.Working.Rows.{Inverting, invertedAt, constantAdded, newtonValues};
 use field::tables;
 use field::tables::Table;
 
@@ -83,44 +81,8 @@ fn inverses(table: &Table, degree: u32, points: &[u8], j: usize, w: &mut [u8], a
     }
 }
 
-// Round j of the divided differences of the row of s from `at` on, w being the inverses of the round.
-fn round(table: &Table, degree: u32, points: &[u8], j: usize, w: &[u8], s: &mut [u8], at: usize)
-    requires { ⌜ Round degree (now table) (now points) j (now w) (now s) at ⌝ }
-    ensures { λ _. ⌜ now (s .exit) ≡ differencesAt degree (now (points .entry)) j (now (s .entry)) at ⌝ }
-{
-    let b = s[at + j];
-    lists::multiply(table, degree, w, 0, s, at + (j + 1), b);
-}
-
-// For the crates above: k rounds of divided differences of the row of s from `at` on. The first k symbols of the row are then
-// its Newton coefficients, and the rest are the reduced values. Rows over the same points are reduced by lent inverses.
-pub fn reduce(table: &Table, degree: u32, points: &[u8], k: usize, s: &mut [u8], at: usize)
-    requires { ⌜ (badDegree degree ≡ false) × IsTable degree (now table) × Points degree (now points) ⌝ }
-    requires { ⌜ (k ≤ length (now points)) × (length (now points) ≤ 96) × (at + length (now points) ≤ length (now s)) ⌝ }
-    requires { ⌜ SymbolsAt degree (now s) at (length (now points)) ⌝ }
-    ensures { λ _.
-        ⌜ now (s .exit)
-        ≡ lay at (reduce (gf degree) k (now (points .entry)) (part at (length (now (points .entry))) (now (s .entry)))) (now (s .entry)) ⌝ }
-{
-    let mut w = [0u8; 96];
-    let mut j = 0;
-    while j < k {
-        inverses(table, degree, points, j, &mut w, 0);
-        round(
-            table,
-            degree,
-            points,
-            j,
-            &w[..points.len() - (j + 1)],
-            s,
-            at,
-        );
-        j += 1;
-    }
-}
-
-// For the crates above: the values at the points xs of the polynomial with the Newton coefficients us at the nodes.
-pub fn evaluate(
+// The values at the points xs of the polynomial with the Newton coefficients us at the nodes; quickest for whole sixteens of points.
+fn evaluate_whole(
     table: &Table,
     degree: u32,
     xs: &[u8],
@@ -144,6 +106,63 @@ pub fn evaluate(
     add_constant(us[0], s, at, xs.len());
 }
 
+// The same at no more than 96 points, in arrays of our own, so that they are whole sixteens.
+fn evaluate_some(
+    table: &Table,
+    degree: u32,
+    xs: &[u8],
+    nodes: &[u8],
+    us: &[u8],
+    s: &mut [u8],
+    at: usize,
+)
+    requires { ⌜ (badDegree degree ≡ false) × IsTable degree (now table) ⌝ }
+    requires { ⌜ All (IsSymbol degree) (now xs) × All (IsSymbol degree) (now nodes) × All (IsSymbol degree) (now us) ⌝ }
+    requires { ⌜ (0 < length (now us)) × (length (now us) ≤ length (now nodes)) × (at + length (now xs) ≤ length (now s)) ⌝ }
+    requires { ⌜ length (now xs) ≤ 96 ⌝ }
+    ensures { λ _.
+        ⌜ now (s .exit) ≡ lay at (newtonValues degree (now (nodes .entry)) (now (us .entry)) (now (xs .entry))) (now (s .entry)) ⌝ }
+{
+    let mut ys = [0u8; 96];
+    let mut vs = [0u8; 96];
+    store(xs, &mut ys, 0);
+    let m = (xs.len() + 15) / 16 * 16;
+    evaluate_whole(table, degree, &ys[..m], nodes, us, &mut vs, 0);
+    store(&vs[..xs.len()], s, at);
+}
+
+// How many of n points are evaluated at once.
+fn some(n: usize) -> usize
+    requires { ⌜ 0 < n ⌝ }
+    ensures { λ r. ⌜ (0 < r) × (r ≤ n) × (r ≤ 96) ⌝ }
+{
+    if n < 96 { n } else { 96 }
+}
+
+// For the crates above: the values at the points xs of the polynomial with the Newton coefficients us at the nodes.
+pub fn evaluate(
+    table: &Table,
+    degree: u32,
+    xs: &[u8],
+    nodes: &[u8],
+    us: &[u8],
+    s: &mut [u8],
+    at: usize,
+)
+    requires { ⌜ (badDegree degree ≡ false) × IsTable degree (now table) ⌝ }
+    requires { ⌜ All (IsSymbol degree) (now xs) × All (IsSymbol degree) (now nodes) × All (IsSymbol degree) (now us) ⌝ }
+    requires { ⌜ (0 < length (now us)) × (length (now us) ≤ length (now nodes)) × (at + length (now xs) ≤ length (now s)) ⌝ }
+    ensures { λ _.
+        ⌜ now (s .exit) ≡ lay at (newtonValues degree (now (nodes .entry)) (now (us .entry)) (now (xs .entry))) (now (s .entry)) ⌝ }
+{
+    let mut i = 0;
+    while i < xs.len() {
+        let n = some(xs.len() - i);
+        evaluate_some(table, degree, &xs[i..i + n], nodes, us, s, at + i);
+        i += n;
+    }
+}
+
 // For the crates above: the values of the polynomial p at the points xs.
 pub fn values(table: &Table, degree: u32, xs: &[u8], p: &[u8], s: &mut [u8], at: usize)
     requires { ⌜ (badDegree degree ≡ false) × IsTable degree (now table) ⌝ }
@@ -155,27 +174,8 @@ pub fn values(table: &Table, degree: u32, xs: &[u8], p: &[u8], s: &mut [u8], at:
     evaluate(table, degree, xs, &nodes, p, s, at);
 }
 
-// For the crates above: c + (x − a)·p, in s from `at` on.
-pub fn linear_of(table: &Table, degree: u32, a: u8, c: u8, p: &[u8], s: &mut [u8], at: usize)
-    requires { ⌜ (badDegree degree ≡ false) × IsTable degree (now table) × (a < 2 ^ degree) ⌝ }
-    requires { ⌜ at + (length (now p) + 1) ≤ length (now s) ⌝ }
-    ensures { λ _. ⌜ now (s .exit) ≡ lay at (lin (gf degree) a c (now (p .entry))) (now (s .entry)) ⌝ }
-{
-    s[at] = c;
-    store(p, s, at + 1);
-    lists::add_times(table, degree, a, p, s, at);
-}
-
-// The polynomial p of m coefficients in s from `at` on becomes c + (x − a)·p; w is room for a copy.
-fn linear(table: &Table, degree: u32, a: u8, c: u8, s: &mut [u8], at: usize, m: usize, w: &mut [u8])
-    requires { ⌜ Linear degree (now table) a (now s) at m (now w) ⌝ }
-    ensures { λ _. ⌜ now (s .exit) ≡ lay at (lin (gf degree) a c (part at m (now (s .entry)))) (now (s .entry)) ⌝ }
-{
-    store(&s[at..at + m], w, 0);
-    linear_of(table, degree, a, c, &w[..m], s, at);
-}
-
-// For the crates above: the coefficients of the polynomial with the Newton coefficients us at the nodes.
+// For the crates above: the coefficients of the polynomial with the Newton coefficients us at the nodes. They are worked out in place,
+// from the last on, in an array of our own with zeros behind, so that whole sixteens are taken.
 pub fn coefficients(table: &Table, degree: u32, nodes: &[u8], us: &[u8], s: &mut [u8], at: usize)
     requires { ⌜ (badDegree degree ≡ false) × IsTable degree (now table) × All (IsSymbol degree) (now nodes) ⌝ }
     requires { ⌜ (length (now us) ≤ length (now nodes)) × (length (now us) ≤ 384) × (at + length (now us) ≤ length (now s)) ⌝ }
@@ -183,19 +183,13 @@ pub fn coefficients(table: &Table, degree: u32, nodes: &[u8], us: &[u8], s: &mut
         ⌜ now (s .exit)
         ≡ lay at (fromNewton (gf degree) (length (now (us .entry))) (now (nodes .entry)) (now (us .entry))) (now (s .entry)) ⌝ }
 {
-    let mut w = [0u8; 384];
+    let mut w = [0u8; 400];
+    store(us, &mut w, 0);
     let mut j = us.len();
     while 0 < j {
-        linear(
-            table,
-            degree,
-            nodes[j - 1],
-            us[j - 1],
-            s,
-            at,
-            us.len() - j,
-            &mut w,
-        );
+        let m = (us.len() - j + 15) / 16 * 16;
+        lists::carry_times(table, degree, nodes[j - 1], &mut w, j - 1, m);
         j -= 1;
     }
+    store(&w[..us.len()], s, at);
 }

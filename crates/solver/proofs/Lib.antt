@@ -1,5 +1,6 @@
 pub mod Scanned
 pub mod Slots
+pub mod Factors
 pub mod Mixing
 pub mod Raising
 pub mod Live

@@ -5,18 +5,19 @@
 --   pivot-found    the pivot is a line of the table
 --   pivot-lowest   no line with a nonzero value has a lower lead
 --   Ready, ready   the values are symbols, the pivot's is not zero, and its lead and width are small
---   later-in       its later values are symbols
+--   raisable       what raising it asks: its slots have symbols, and nothing behind the locator
 --   heads-at       the values as the code reads them
 -- Assumes nothing.
 use mathlib.Core.Path.{_≡_, sym, ap, _∙_}
 use mathlib.Core.List.{List, [], _∷_}
 use mathlib.Core.Option.{none, some}
 use mathlib.Core.Bool.{false}
-use Prim.Native.Nat.{ℕ, zero, suc, _+_, _*_, _/_, _≤_, _<_}
-use native.Mathlib.Nat.{add-assoc, add-zero, zero-add, add-mul, mul-le-mul, div-lt-iff-lt-mul, lt-div-mul-add}
+use Prim.Native.Nat.{ℕ, zero, suc, _+_, _-_, _*_, _/_, _^_, _≤_, _<_}
+use native.Mathlib.Nat.{add-zero, zero-add, add-mul, mul-le-mul, div-lt-iff-lt-mul, lt-div-mul-add}
 use native.Mathlib.Decide.{ℕ-discrete, decLt}
 use native.Mathlib.Omega.{arith}
-use lib.ListN.{length, getD, getElem?, List·getD-append}
+use lib.ListN.{length, getD, getElem?, List·getD-append, List·getD-eq-default}
+use lib.Pow.{pow-pos}
 use Rattle.patch.specs.Patch.{patch}
 use Rattle.patch.proofs.Laws.{getD-patch}
 use Rattle.refusal.specs.Refusal.{badDegree}
@@ -32,9 +33,10 @@ use Rattle.basis.proofs.Scan
 use Rattle.solver.specs.Working.Slots.{slots}
 use Rattle.solver.specs.Working.Held.{blank, Held, HoldsLines}
 use Rattle.solver.specs.Working.Scan.{found, firstLowest}
-use Rattle.solver.proofs.Slots.{slots-at}
+use Rattle.solver.specs.Working.Turns.{Raisable}
+use Rattle.solver.proofs.Slots.{slots-length, slots-at}
 use Rattle.solver.proofs.Scanned.{scanned, line-some}
-use Rattle.solver.proofs.Kept.{after, slot-next, symbols-next}
+use Rattle.solver.proofs.Kept.{after, slot-next, symbols-next, beyond}
 
 all-get : {L : Type 0} (P : L → Type 0) (l : List L) (z : L) (j : ℕ) → j < length l → All P l → P (getD l j z)
 all-get P [] z j lt a = absurd (omega arith)
@@ -62,7 +64,8 @@ pub heads-at : (space : List ℕ) (i n : ℕ) (l : List ℕ) {ds : List ℕ} →
 heads-at space i n l {ds} fits is j lt =
     ap (λ (k : ℕ). getD ds k 0) (sym (zero-add j)) ∙ rw is (getD-patch 0 _ l n j 0 lt (omega arith))
 
-module _ (d C s i : ℕ) (next : i < C) (small : C ≤ 380) {leads space : List ℕ} {es : List (Line ℕ)} (h : HoldsLines d C s i leads space es) where
+module _ (d C s i : ℕ) (next : i < C) (small : C ≤ 380) {leads space : List ℕ} {es : List (Line ℕ)}
+    (h : HoldsLines d C s i leads space es) where
   pub value-at : (j : ℕ) → j < s → getD space (768 * j + i) 0 ≡ now (gf d) (getD es j blank)
   value-at j lt =
       let e : Line ℕ = getD es j blank in
@@ -75,7 +78,8 @@ module _ (d C s i : ℕ) (next : i < C) (small : C ≤ 380) {leads space : List 
       let e : Line ℕ = getD es j blank in
       at-in (gf d) (field d good) (e .values) (all-left (IsSymbol d) (e .values) (e .locator) (h .each j lt .symbols)) 0
 
-  module _ (ds : List ℕ) (heads : (j : ℕ) → j < s → getD ds j 0 ≡ getD space (768 * j + i) 0) (r : ℕ) (is : found s r ≡ firstLowest ds leads s) where
+  module _ (ds : List ℕ) (heads : (j : ℕ) → j < s → getD ds j 0 ≡ getD space (768 * j + i) 0) (r : ℕ) (is : found s r
+      ≡ firstLowest ds leads s) where
     pub pivot-line : getElem? es r ≡ lowest (λ (e : Line ℕ). e .lead) (λ (e : Line ℕ). ℕ-discrete (now (gf d) e) 0) none es
     pivot-line =
         scanned blank (λ (e : Line ℕ). e .lead) (λ (e : Line ℕ). ℕ-discrete (now (gf d) e) 0) es ds leads s r (h .count) is
@@ -110,7 +114,29 @@ module _ (d C s i : ℕ) (next : i < C) (small : C ≤ 380) {leads space : List 
             within = omega (arith, div-lt-iff-lt-mul {x = getD leads r 0} {y = i + 1} positive .1 low);
           }
 
-      pub later-in : badDegree d ≡ false → (n : ℕ) → i + 1 + n ≤ 768 → SymbolsAt d space (768 * r + (i + 1)) n
-      later-in good n fits k below =
-          rw (add-assoc (768 * r) (i + 1) k, ← (slots-at r space (i + 1 + k) (omega arith)), slot-next d C s i next (h .each r lt) k (omega arith))
-          (at-in (gf d) (field d good) (after pivot) (symbols-next d C s i next (h .each r lt)) k)
+      -- what raising it asks
+      pub raisable : badDegree d ≡ false → (width : ℕ) → getD leads r 0 < width * s → width ≤ i + 1 → 768 * r + 768 ≤ length space
+          → Raisable d (C - (i + 1)) width r (i + 1) space
+      raisable good width wide narrow line =
+          let held = h .each r lt in
+          let low : pivot .lead < width * s = rw (held .lead) at wide in
+          let size : length (slots r space) ≡ 768 = slots-length r space line in
+          record {
+            within = omega arith;
+            line = line;
+            symbols = λ k. in-slot size k (decLt (i + 1 + k) 768);
+            behind = λ n above. let e : i + 1 + (C - (i + 1)) + n ≡ i + 1 + (C - (i + 1) + n) = omega arith in
+                rw e (no-slot size low (C - (i + 1) + n) (omega arith) (decLt (i + 1 + (C - (i + 1) + n)) 768));
+          }
+        where
+          in-slot : length (slots r space) ≡ 768 → (k : ℕ) → Dec (i + 1 + k < 768) → getD (slots r space) (i + 1 + k) 0 < 2 ^ d
+          in-slot size k (yes b) =
+              rw (slot-next d C s i next (h .each r lt) k b)
+              (at-in (gf d) (field d good) (after pivot) (symbols-next d C s i next (h .each r lt)) k)
+          in-slot size k (no b) = rw (List·getD-eq-default (slots r space) 0 {n = i + 1 + k} (omega arith)) (pow-pos d)
+
+          no-slot : length (slots r space) ≡ 768 → pivot .lead < width * s → (k : ℕ) → C + width ≤ i + 1 + k → Dec (i + 1 + k < 768)
+              → getD (slots r space) (i + 1 + k) 0 ≡ 0
+          no-slot size low k above (yes b) = slot-next d C s i next (h .each r lt) k b
+              ∙ beyond d C s i next (h .each r lt) width k low above
+          no-slot size low k above (no b) = List·getD-eq-default (slots r space) 0 {n = i + 1 + k} (omega arith)

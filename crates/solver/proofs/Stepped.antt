@@ -68,7 +68,7 @@ module _ (d : ℕ) (points : List ℕ) (s i : ℕ) (next : i < length points) (s
         p = getD es r blank
 
         abbrev w : List ℕ
-        w = part (i + 1) (C + width - (i + 1)) (slots r space)
+        w = part (i + 1) (C - (i + 1) + width) (slots r space)
 
         abbrev leads₂ : List ℕ
         leads₂ = set leads r (getD leads r 0 + s)
@@ -82,20 +82,26 @@ module _ (d : ℕ) (points : List ℕ) (s i : ℕ) (next : i < length points) (s
         low : p .lead < width * s
         low = rw (h .each r lt .lead) at wide
 
-        w-length : length w ≡ C + width - (i + 1)
+        w-length : length w ≡ C - (i + 1) + width
         w-length = length-part (i + 1) _ (slots r space) (omega (arith, size r lt))
 
         copied-at : (k : ℕ) → getD w k 0 ≡ getD (after p) k 0
-        copied-at k = go (decLt k (C + width - (i + 1)))
+        copied-at k = go (decLt k (C - (i + 1) + width))
           where
-            go : Dec (k < C + width - (i + 1)) → getD w k 0 ≡ getD (after p) k 0
+            go : Dec (k < C - (i + 1) + width) → getD w k 0 ≡ getD (after p) k 0
             go (yes below) = getD-part (i + 1) _ (slots r space) k below ∙ slot-next d C s i next (h .each r lt) k (omega arith)
             go (no above) =
-                List·getD-eq-default w 0 {n = k} (omega (arith, w-length)) ∙ sym (beyond d C s i next (h .each r lt) width k low (omega arith))
+                List·getD-eq-default w 0 {n = k} (omega (arith, w-length))
+                ∙ sym (beyond d C s i next (h .each r lt) width k low (omega arith))
 
         -- the pivot, a line that stays, and a line that is mixed
         the-pivot : Held d C s (i + 1) (slots r space₂) (getD leads₂ r 0)
-            (record { lead = s + p .lead; locator = mix (gf d) x (0 ∷ p .locator) (p .locator); values = lifted (gf d) x xs (later (p .values)) })
+            (record {
+              lead = s + p .lead;
+              locator = mix (gf d) x (0 ∷ p .locator) (p .locator);
+              values =
+                  lifted (gf d) x xs (later (p .values));
+            })
         the-pivot =
             rw (
               turned .raises .changed,
@@ -121,7 +127,12 @@ module _ (d : ℕ) (points : List ℕ) (s i : ℕ) (next : i < length points) (s
             → Held d C s (i + 1) (slots j space₂) (getD leads₂ j 0)
             (let e : Line ℕ = getD es j blank in
             let c : ℕ = over d (now (gf d) e) (now (gf d) p) in
-            record { lead = e .lead; locator = mix (gf d) c (e .locator) (p .locator); values = mix (gf d) c (later (e .values)) (later (p .values)) })
+            record {
+              lead = e .lead;
+              locator = mix (gf d) c (e .locator) (p .locator);
+              values =
+                  mix (gf d) c (later (e .values)) (later (p .values));
+            })
         the-mixed j below other value =
             let here : getD ds j 0 ≡ now (gf d) (getD es j blank) = heads j below ∙ value-at d C s i next small h j below in
             let there : getD ds r 0 ≡ now (gf d) p = heads r lt ∙ value-at d C s i next small h r lt in
@@ -155,5 +166,6 @@ module _ (d : ℕ) (points : List ℕ) (s i : ℕ) (next : i < length points) (s
               count = rw one-found (length-map es (fix (gf d) ℕ-discrete s x xs p) ∙ h .count);
               enough = rw length-set (h .enough);
               apart = step-apart (gf d) ℕ-discrete s x xs es (h .apart);
-              each = λ j below. rw (one-found, map-get (fix (gf d) ℕ-discrete s x xs p) es blank j (omega (arith, h .count))) (fixed j below _ _);
+              each = λ j below. rw (one-found, map-get (fix (gf d) ℕ-discrete s x xs p) es blank j (omega (arith, h .count)))
+                  (fixed j below _ _);
             }

@@ -14,6 +14,7 @@ ghost use Rattle.poly.specs.Poly.{All};
 ghost use Rattle.solver.specs.Working.Start.{allCounts, Starts};
 ghost use Rattle.solver.specs.Working.Solver.{HoldsSome, Steps, Runs, SomeRows, Solves};
 ghost use Rattle.solver.specs.Working.Slots.{lineSlots};
+ghost use Rattle.solver.specs.Working.Turns.{Padded};
 use field::tables::Table;
 
 // The slots of a line.
@@ -32,28 +33,32 @@ pub fn start(us: &[u8], counts: &[usize], leads: &mut [usize; 5], space: &mut [u
 }
 
 // Takes the lines over condition i: none changes if all have the value zero there; else the pivot is mixed into the others and
-// raised; w is room for a copy of it.
+// raised; xs are the points and zeros behind them, and w is room for a copy of the pivot.
 fn step(
     table: &Table,
     degree: u32,
     points: &[u8],
+    xs: &[u8],
     i: usize,
     lines: usize,
     leads: &mut [usize; 5],
     space: &mut [u8],
     w: &mut [u8],
 )
-    requires { ⌜ (badDegree degree ≡ false) × IsTable degree (now table) × All (IsSymbol degree) (now points) ⌝ }
-    requires { ⌜ (i < length (now points)) × (length (now points) ≤ 380) × (0 < lines) × (lines ≤ 5) × (lineSlots * lines ≤ length (now space)) × (784 ≤ length (now w)) ⌝ }
+    requires { ⌜ (badDegree degree ≡ false) × IsTable degree (now table) × All (IsSymbol degree) (now points)
+        × Padded (now points) (now xs) ⌝ }
+    requires { ⌜ (i < length (now points)) × (length (now points) ≤ 380) × (0 < lines) × (lines ≤ 5)
+        × (lineSlots * lines ≤ length (now space)) × (784 ≤ length (now w)) ⌝ }
     requires { ⌜ HoldsSome degree (length (now points)) lines i (now leads) (now space) ⌝ }
-    ensures { λ _. ⌜ Steps degree (now (points .entry)) lines i (now (leads .entry)) (now (space .entry)) (now (leads .exit)) (now (space .exit)) ⌝ }
+    ensures { λ _. ⌜ Steps degree (now (points .entry)) lines i (now (leads .entry)) (now (space .entry)) (now (leads .exit)) (now
+        (space .exit)) ⌝ }
 {
     let mut ds = [0u8; 5];
     turns::heads(space, i, lines, &mut ds);
     let p = scan::pivot(&ds, leads, lines);
     if p < lines {
         let width = leads[p] / lines + 1;
-        turns::turn(table, degree, points, i, lines, &ds, p, width, space, w);
+        turns::turn(table, degree, points, xs, i, lines, &ds, p, width, space, w);
         leads[p] += lines;
     }
 }
@@ -70,12 +75,15 @@ pub fn run(
     requires { ⌜ (badDegree degree ≡ false) × IsTable degree (now table) × All (IsSymbol degree) (now points) ⌝ }
     requires { ⌜ (length (now points) ≤ 380) × (0 < lines) × (lines ≤ 5) × (lineSlots * lines ≤ length (now space)) ⌝ }
     requires { ⌜ HoldsSome degree (length (now points)) lines 0 (now leads) (now space) ⌝ }
-    ensures { λ _. ⌜ Runs degree (now (points .entry)) lines (now (leads .entry)) (now (space .entry)) (now (leads .exit)) (now (space .exit)) ⌝ }
+    ensures { λ _. ⌜ Runs degree (now (points .entry)) lines (now (leads .entry)) (now (space .entry)) (now (leads .exit)) (now (space
+        .exit)) ⌝ }
 {
+    let mut xs = [0u8; 784];
+    rows::store(points, &mut xs, 0);
     let mut w = [0u8; 784];
     let mut i = 0;
     while i < points.len() {
-        step(table, degree, points, i, lines, leads, space, &mut w);
+        step(table, degree, points, &xs, i, lines, leads, space, &mut w);
         i += 1;
     }
 }
@@ -91,7 +99,8 @@ pub fn solve(
     leads: &mut [usize; 5],
     space: &mut [u8],
 )
-    requires { ⌜ (badDegree degree ≡ false) × IsTable degree (now table) × All (IsSymbol degree) (now points) × All (IsSymbol degree) (now us) ⌝ }
+    requires { ⌜ (badDegree degree ≡ false) × IsTable degree (now table) × All (IsSymbol degree) (now points)
+        × All (IsSymbol degree) (now us) ⌝ }
     requires { ⌜ (length (now us) ≤ 380) × (length (now counts) ≤ 4) × (lineSlots * (length (now counts) + 1) ≤ length (now space)) ⌝ }
     requires { ⌜ SomeRows (now counts) (now points) (now us) ⌝ }
     ensures { λ _. ⌜ Solves degree (now (counts .entry)) (now (points .entry)) (now (us .entry)) (now (leads .exit)) (now (space .exit)) ⌝ }

@@ -1,7 +1,8 @@
 -- The product that is combined from a constant factor's doublings by the bits of a symbol.
 --
 --   combined r s         the sum of those entries of r at which s has a bit
---   combinedBy, addedBy  what stands at a place combined; what stands there, and the combined symbol of another list
+--   combinedBy, addedBy, carriedBy    what stands at a place combined; what stands there, and the combined symbol of another list,
+--                        or the one behind it combined
 --   fourCombined         four entries so, and what the higher bits gave
 --   Short d r            in a field of at most sixteen symbols r has nothing from the fifth entry on
 use mathlib.Core.Path.{_≡_}
@@ -24,6 +25,9 @@ combinedBy r l at k = combined r (getD l (at + k) 0)
 
 abbrev pub addedBy : List ℕ → List ℕ → List ℕ → ℕ → ℕ → ℕ
 addedBy r w l at k = plus (getD l (at + k) 0) (combined r (getD w k 0))
+
+abbrev pub carriedBy : List ℕ → List ℕ → ℕ → ℕ → ℕ
+carriedBy r l at k = plus (getD l (at + k) 0) (combined r (getD l (at + (k + 1)) 0))
 
 -- the sum of those of four entries at which s has a bit, and what the higher bits gave
 abbrev pub fourCombined : ℕ → ℕ → ℕ → ℕ → ℕ → ℕ → ℕ

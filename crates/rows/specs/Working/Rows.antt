@@ -3,23 +3,19 @@
 --   Points d xs            xs are symbols of the field of degree d, no two equal
 --   inverse d xs j i       1/(x − x_j), x being the i-th point behind the j-th
 --   difference d xs us j i (u − u_j)/(x − x_j), u being the entry of the row us at the point x
---   invertedAt, differencesAt    a list when a part of it is written with those of round j
+--   invertedAt             a list when a part of it is written with the inverses of round j
 --   constantAdded c l at n the same where c was added to n symbols
 --   newtonValues d nodes us xs   the values at xs of the polynomial with the Newton coefficients us at the nodes
---   RoundInverses d xs j w w are the inverses of round j, one for each point behind the j-th
 --   Inverses d xs k ws     ws are symbols, and have the inverses of k rounds, those of round j from place 96·j on
---   Inverting, Round       what taking the inverses of a round asks for, and what the round does; t is the field's table
---   Linear d t a l at m w  what writing c + (x − a)·p over p asks for, p having m coefficients, with room in w for a copy of it
+--   Inverting              what taking the inverses of a round asks for; t is the field's table
 use mathlib.Core.Path.{_≡_}
 use Prim.Native.Nat.{ℕ, _+_, _-_, _*_, _≤_, _<_}
 use mathlib.Core.List.{List, map}
 use lib.ListN.{length, getD}
 use Rattle.patch.specs.Patch.{patch}
-use Rattle.patch.specs.Parts.{part}
 use Rattle.field.specs.Symbols.{IsSymbol, plus, over}
 use Rattle.field.specs.Arithmetic.{gf}
 use Rattle.field.specs.Working.Tables.{Lent}
-use Rattle.lists.specs.Working.Lists.{SymbolsAt}
 use Rattle.poly.specs.Poly.{All}
 use Rattle.poly.proofs.Forms.{newtonValue}
 use Rattle.poly.proofs.Roots.{Distinct}
@@ -38,18 +34,11 @@ difference d xs us j i =
 abbrev pub invertedAt : ℕ → List ℕ → ℕ → List ℕ → ℕ → List ℕ
 invertedAt d xs j l at = patch at (length xs - (j + 1)) (inverse d xs j) l
 
-abbrev pub differencesAt : ℕ → List ℕ → ℕ → List ℕ → ℕ → List ℕ
-differencesAt d xs j l at = patch (at + (j + 1)) (length xs - (j + 1)) (difference d xs (part at (length xs) l) j) l
-
 abbrev pub constantAdded : ℕ → List ℕ → ℕ → ℕ → List ℕ
 constantAdded c l at n = patch at n (λ k. plus (getD l (at + k) 0) c) l
 
 abbrev pub newtonValues : ℕ → List ℕ → List ℕ → List ℕ → List ℕ
 newtonValues d nodes us xs = map (newtonValue (gf d) (length us) nodes us) xs
-
-pub record RoundInverses (d : ℕ) (xs : List ℕ) (j : ℕ) (w : List ℕ) : Type 0 where
-  pub count : length w ≡ length xs - (j + 1)
-  pub each : (i : ℕ) → i < length xs - (j + 1) → getD w i 0 ≡ inverse d xs j i
 
 pub record Inverses (d : ℕ) (xs : List ℕ) (k : ℕ) (ws : List ℕ) : Type 0 where
   pub room : 96 * k ≤ length ws
@@ -61,17 +50,3 @@ pub record Inverting (d : ℕ) (t xs : List ℕ) (j : ℕ) (l : List ℕ) (at : 
   pub points : Points d xs
   pub place : j < length xs
   pub room : at + length xs ≤ length l
-
-pub record Round (d : ℕ) (t xs : List ℕ) (j : ℕ) (w l : List ℕ) (at : ℕ) : Type 0 where
-  pub lent : Lent d t
-  pub points : Points d xs
-  pub place : j < length xs
-  pub room : at + length xs ≤ length l
-  pub symbols : SymbolsAt d l at (length xs)
-  pub inverses : RoundInverses d xs j w
-
-pub record Linear (d : ℕ) (t : List ℕ) (a : ℕ) (l : List ℕ) (at m : ℕ) (w : List ℕ) : Type 0 where
-  pub lent : Lent d t
-  pub node : IsSymbol d a
-  pub copy : m ≤ length w
-  pub room : at + (m + 1) ≤ length l

@@ -5,29 +5,46 @@ use Prim.Native.Nat.{_-_, _≤_}
 use native.Mathlib.Omega.{arith}
 use lib.ListN.{length}
 use Rattle.solver.proofs.Ran.{Left, left-all, left-turn, left-none}
+use Rattle.solver.proofs.Raising.{padded}
 use borrow.Author.Needs.{needs}
 use Rattle.solver.proofs.run.Statement.{statement}
 use Rattle.solver.proofs.run.Tie as tie
 
 abbrev Inv-loop : tie.InvT-loop
-Inv-loop table degree points lines leads₀ space₀ w₀ i₀ leads space w i =
+Inv-loop table degree points lines leads₀ space₀ xs w₀ i₀ leads space w i =
     (i ≤ length points) × (length w ≡ 784) × (length space ≡ length space₀) × Left degree points lines leads₀ space₀ i leads space
 
 abbrev μ-loop : tie.MeasureT-loop
-μ-loop table degree points lines leads₀ space₀ w₀ i₀ leads space w i = length points - i
+μ-loop table degree points lines leads₀ space₀ xs w₀ i₀ leads space w i = length points - i
 
 loop-holds : tie.Need-loop-holds Inv-loop μ-loop
 loop-holds c = (search needs, search needs, search needs, left-all _ _ _ _ _)
 
-slice-aggregate-step : tie.Need-slice-aggregate-step Inv-loop μ-loop
-slice-aggregate-step c = search needs
+abbrev start : tie.After-xs Inv-loop μ-loop → tie.Start Inv-loop μ-loop
+start c = c .before .before .before
+
+abbrev held : tie.At-loop Inv-loop μ-loop → tie.After-store Inv-loop μ-loop
+held c = c .before .before
 
 step-requires : tie.Need-step-requires Inv-loop μ-loop
 step-requires c κs =
-    let turn = c .before .before .before .before in
-    let pre = turn .before .before .before .pre in
-    let (fs, held, same) = turn .loop .inv .3 (pre .1 .1 .0) (pre .1 .1 .1) in
-    (pre .0, ((c .before .before .before .loop-test .taken, pre .1 .0 .0, pre .1 .0 .1, pre .1 .0 .2, omega (arith, pre .1 .0, turn .loop .inv .2), omega (arith, turn .loop .inv .1)), (fs, held)))
+    let turn = c .before .before .before .before .before in
+    let stored = held turn in
+    let pre = start (stored .before) .pre in
+    let (fs, lines, same) = turn .loop .inv .3 (pre .1 .1 .0) (pre .1 .1 .1) in (
+      (pre .0 .0, pre .0 .1, pre .0 .2, padded _ (omega (arith, pre .1 .0 .0)) (stored .store .ensures)),
+      (
+        (
+          c .before .before .before .before .loop-test .taken,
+          pre .1 .0 .0,
+          pre .1 .0 .1,
+          pre .1 .0 .2,
+          omega (arith, pre .1 .0, turn .loop .inv .2),
+          omega (arith, turn .loop .inv .1),
+        ),
+        (fs, lines),
+      ),
+    )
 
 add-i : tie.Need-add-i Inv-loop μ-loop
 add-i c = search needs
@@ -37,13 +54,14 @@ loop-less c = search needs
 
 loop-again : tie.Need-loop-again Inv-loop μ-loop
 loop-again c =
-    let step = c .before .before .before .step in
-    let inv = c .before .before .before .before .before .before .before .before .loop .inv in
-    let below = c .before .before .before .before .before .before .before .loop-test .taken in (
+    let called = c .before .before .before in
+    let inside = called .before .before .before .before .before in
+    let inv = inside .before .loop .inv in
+    let below = inside .loop-test .taken in (
       omega (arith, below),
-      step .kept .1 .1 .1 .1 .1 .1 .1 .0 ∙ inv .1,
-      step .kept .1 .1 .1 .1 .1 .1 .0 ∙ inv .2,
-      left-turn _ _ _ _ _ _ _ _ _ _ below (inv .3) (step .ensures),
+      called .step .kept .1 .1 .1 .1 .1 .1 .1 .1 .0 ∙ inv .1,
+      called .step .kept .1 .1 .1 .1 .1 .1 .1 .0 ∙ inv .2,
+      left-turn _ _ _ _ _ _ _ _ _ _ below (inv .3) (called .step .ensures),
     )
 
 same-length : tie.Need-same-length Inv-loop μ-loop
@@ -58,8 +76,11 @@ run-spec =
     (tie.spec
     Inv-loop
     μ-loop
+    (λ c. search needs)
+    (λ c κs. omega (arith, start c .pre .1 .0 .0))
     loop-holds
-    slice-aggregate-step
+    (λ c. search needs)
+    (λ c. search needs)
     step-requires
     add-i
     loop-less

@@ -1,84 +1,90 @@
--- `carry::array_of` works out the columns and turns them.
+-- `carry::array_of` sums the sectors of a copy of the ring.
 -- Assumes nothing.
-use mathlib.Core.Path.{sym, _∙_}
+use mathlib.Core.Path.{_≡_, refl, sym}
+use mathlib.Core.List.{List}
+use Prim.Native.Nat.{ℕ, _*_, _≤_}
+use native.Mathlib.Nat.{zero-add}
 use native.Mathlib.Omega.{arith}
-use lib.ListN.{replicate}
+use lib.ListN.{length, take, replicate}
 use lib.Seq.{length-take-le}
+use Rattle.patch.specs.Parts.{lay}
+use Rattle.patch.proofs.Parts.{length-lay, getD-lay}
+use Rattle.hermitian.specs.Ring.{IsRing}
 use Rattle.hermitian.proofs.Sizes.{Sides, sides, tested}
-use Rattle.ring.proofs.Turns.{y-room, array-made}
+use Rattle.hermitian.proofs.Kernel.{summed-array}
+use Rattle.ring.specs.Working.{SectorsGiven, Holds}
+use Rattle.ring.proofs.Ordinates.{y-room}
+use Rattle.ring.proofs.Summing.{cut-summed}
 use borrow.Author.Needs.{needs}
 use Rattle.ring.proofs.carry.array_of.Statement.{statement}
 use Rattle.ring.proofs.carry.array_of.Tie as tie
 
-abbrev start : tie.After-side → tie.Start
-start c = c .before .before
+-- a ring, held at the front of 64 symbols
+holds : (q : ℕ) {w : List ℕ} (z : List ℕ) {v : List ℕ} → length z ≡ 64 → q * q * q ≤ 64 → IsRing q w → v ≡ lay 0 w z → Holds q w v
+holds q {w} z size most ring is = record {
+  room = rw (is, length-lay) (omega arith);
+  same = λ i h. rw is (rw zero-add at (getD-lay 0 w z i (omega (arith, ring .count)) (omega (arith, ring .count))));
+}
 
-abbrev begun : tie.After-columns → tie.After-side
-begun c = c .before .before .before .before .before
+abbrev start : tie.After-ordinates → tie.Start
+start c = c .before .before .before
 
-abbrev carried : tie.After-turn → tie.After-carry-sectors
-carried c = c .before .before .before .before
+abbrev stored : tie.After-table → tie.After-ordinates
+stored c = c .before .before .before .before
 
-counts : (c : tie.After-side) → Sides (start c .args .q) (c .side .result)
-counts c = sides (start c .args .q) (c .side .result) (start c .pre .size) (c .side .ensures)
+abbrev lent : tie.After-array → tie.After-table
+lent c = c .before .before .before
+
+counts : (s : tie.Start) → Sides (s .args .q) (s .args .q)
+counts s = sides (s .args .q) (s .args .q) (s .pre .size) refl
 
 array-share-prefix-ys : tie.Need-array-share-prefix-ys
 array-share-prefix-ys c =
-    let d = c .before in
-    let s = start (d .before .before) in
+    let d = stored c in
+    let s = start d in
     omega (arith, y-room (s .args .q) (s .pre .size) (d .ordinates .result) (d .ordinates .ensures), s .pre .ring .count)
 
-carry-sectors-requires : tie.Need-carry-sectors-requires
-carry-sectors-requires c κs =
-    let d = begun c in
-    let p = start d .pre in
+given : (c : tie.After-array) → let d = stored (lent c) in let s = start d in
+    SectorsGiven (s .args .q) (d .before .lend .result) (take (length (s .args .ring .now)) (d .ordinates .result)) (s .args .ring .now)
+    (replicate 64 0)
+given c =
+    let d = stored (lent c) in
+    let s = start d in
     record {
-      size = p .size;
-      table = c .before .before .before .before .lend .ensures;
-      ordinates = rw (p .ring .count) (c .before .before .before .ordinates .ensures);
-      ring = p .ring;
-      room = counts d .most;
+      size = s .pre .size;
+      table = d .before .lend .ensures;
+      ordinates = rw (s .pre .ring .count) (d .ordinates .ensures);
+      ring = s .pre .ring;
+      room = counts s .most;
     }
 
-array-share-prefix-columns : tie.Need-array-share-prefix-columns
-array-share-prefix-columns c =
-    let d = begun (c .before .before) in
-    omega (arith, c .before .carry-sectors .kept .1 .1 .1 .1 .0, start d .pre .ring .count, counts d)
-
-turn-requires : tie.Need-turn-requires
-turn-requires c κs =
-    let d = begun (c .before .before .before .before) in
-    let n = counts d in
-    record {
-      some = n .some-columns;
-      most-rows = n .columns;
-      most-columns = omega (arith, n);
-      count = length-take-le _ _ (array-share-prefix-columns (c .before .before)) ∙ start d .pre .ring .count ∙ sym (n .symbols);
-      room = omega (arith, n);
-    }
+carry-sums-requires : tie.Need-carry-sums-requires
+carry-sums-requires c κs =
+    let t = lent c in
+    let s = start (stored t) in
+    (given c, holds (s .args .q) (replicate 64 0) refl (counts s .most) (s .pre .ring) (t .before .before .store .ensures))
 
 returns : tie.Need-returns
 returns c =
-    let e = carried (c .before) in
-    let d = begun (e .before) in
-    let p = start d .pre in
-    array-made (p .size) (d .side .ensures) (p .ring) (replicate 64 0) (counts d .most) (e .carry-sectors .ensures)
-    (c .before .turn .ensures)
+    let called = c .before .before in
+    let g = given (called .before) in
+    let s = start (stored (lent (called .before))) in
+    rw (s .pre .ring .count)
+    (summed-array (s .args .q) (s .pre .size) (s .pre .ring)
+    (length-take-le (s .args .q * s .args .q * s .args .q) _ (omega (arith, called .carry-sums .kept, counts s .most)))
+    (cut-summed g (called .carry-sums .ensures)))
 
 pub array-of-spec : {M : Type 1} → statement M
 array-of-spec =
     tie.close
     (tie.spec
+    (λ c κs. tested (c .before .args .q) (c .before .pre .size) .degree)
     (λ c κs. search needs)
-    (λ c κs. tested (start c .args .q) (start c .pre .size) .degree)
-    (λ c κs. search needs)
+    (λ c. search needs)
+    (λ c κs. let s = start (c .before) in omega (arith, counts s, s .pre .ring .count))
     array-share-prefix-ys
     (λ c. sym (length-take-le _ _ (array-share-prefix-ys (c .before))))
     (λ c. search needs)
-    carry-sectors-requires
-    (λ c. omega (arith, counts (begun (c .before .before))))
-    array-share-prefix-columns
-    (λ c. sym (length-take-le _ _ (array-share-prefix-columns (c .before))))
     (λ c. search needs)
-    turn-requires
+    carry-sums-requires
     returns)

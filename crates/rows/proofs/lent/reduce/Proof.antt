@@ -17,7 +17,7 @@ abbrev μ-loop : tie.MeasureT-loop
 abbrev start : tie.In-loop Inv-loop μ-loop → tie.Start Inv-loop μ-loop
 start c = c .before .before .before .before .before
 
-abbrev reading : tie.After-multiply-sixteens-arg2 Inv-loop μ-loop → tie.In-loop Inv-loop μ-loop
+abbrev reading : tie.After-multiply-arg2 Inv-loop μ-loop → tie.In-loop Inv-loop μ-loop
 reading c = c .before .before .before
 
 given : (c : tie.Start Inv-loop μ-loop)
@@ -32,15 +32,18 @@ given c = let ((degree, table, points), ((rounds, few, room), (symbols, inverses
   inverses = inverses;
 }
 
-multiply-sixteens-requires : tie.Need-multiply-sixteens-requires Inv-loop μ-loop
-multiply-sixteens-requires c κs = let here = reading c in
-    (given (start here) .lent .table, next-shared (given (start here)) (here .before .loop .inv .1) (here .loop-test .taken))
+multiply-requires : tie.Need-multiply-requires Inv-loop μ-loop
+multiply-requires c κs =
+    let here = reading c in
+    let g = given (start here) in
+    let m = next-shared g (here .before .loop .inv .1) (here .loop-test .taken) in
+    ((m .degree, g .lent .table, m .left, m .right), (m .room, (m .factors, m .symbols)))
 
 loop-again : tie.Need-loop-again Inv-loop μ-loop
 loop-again c =
     let here = reading (c .before .before .before) in (
       omega (arith, here .loop-test .taken),
-      one-shared (given (start here)) (here .before .loop .inv .1) (here .loop-test .taken) (c .before .before .multiply-sixteens .ensures),
+      one-shared (given (start here)) (here .before .loop .inv .1) (here .loop-test .taken) (c .before .before .multiply .ensures),
     )
 
 returns : tie.Need-returns Inv-loop μ-loop
@@ -54,7 +57,7 @@ reduce-spec =
     (λ c. (omega arith, none-shared _ _ _ (given (c .before .before .before) .symbols)))
     (λ c. search needs) (λ c. search needs) (λ c. search needs) (λ c. search needs) (λ c. search needs) (λ c. search needs)
     (λ c. search needs) (λ c. search needs) (λ c. search needs) (λ c. search needs) (λ c. search needs)
-    multiply-sixteens-requires
+    multiply-requires
     (λ c. search needs) (λ c. search needs)
     loop-again
     (λ c. search needs)

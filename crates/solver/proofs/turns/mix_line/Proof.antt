@@ -1,8 +1,10 @@
 -- `solver::turns::mix_line` changes the slots of its line, if need be.
 -- Assumes nothing.
+use mathlib.Core.Path.{_∙_}
 use native.Mathlib.Omega.{arith}
 use Rattle.field.proofs.Instance.{field}
 use Rattle.solver.proofs.Slots.{only-none}
+use Rattle.solver.proofs.Factors.{factor-over}
 use Rattle.solver.proofs.Mixing.{mixed-pivot, mixed-zero, mixed-only}
 use borrow.Author.Needs.{needs}
 use Rattle.solver.proofs.turns.mix_line.Statement.{statement}
@@ -17,14 +19,11 @@ element-copy-out-if2 c = search needs
 returns-2 : tie.Need-returns-2
 returns-2 c = only-none _ _ _ (mixed-zero _ _ _ _ _ _ _ (c .if2 .taken))
 
-element-copy-out-quotient-from : tie.Need-element-copy-out-quotient-from
-element-copy-out-quotient-from c = search needs
+element-copy-out-add-times : tie.Need-element-copy-out-add-times
+element-copy-out-add-times c = search needs
 
-element-copy-out-quotient-from-2 : tie.Need-element-copy-out-quotient-from-2
-element-copy-out-quotient-from-2 c = search needs
-
-quotient-from-requires : tie.Need-quotient-from-requires
-quotient-from-requires c κs = search needs
+abbrev start : tie.Else2 → tie.Start
+start c = c .before .before .before .before .before
 
 mul-add-times : tie.Need-mul-add-times
 mul-add-times c = search needs
@@ -34,8 +33,9 @@ add-add-times c = search needs
 
 add-times-requires : tie.Need-add-times-requires
 add-times-requires c κs =
-    let pre = c .before .before .before .before .before .before .before .before .before .pre in
-    ((pre .0 .0, pre .0 .1, rw (c .before .quotient-from .ensures) (field _ (pre .0 .0) .over-in _ _)), omega arith)
+    let s = start (c .before .before) in
+    let (field-of, lent, factors) = s .pre .0 in
+    ((field-of, lent, rw (factors (s .args .j) (s .pre .1 .0 .1)) (field _ field-of .times-in _ _)), omega (arith, s .pre .1 .1))
 
 same-length : tie.Need-same-length
 same-length c = search needs
@@ -43,11 +43,13 @@ same-length c = search needs
 returns-3 : tie.Need-returns-3
 returns-3 c =
     let added = c .before .before in
-    let divided = added .before .before in
-    let value = divided .before .before .before in
+    let value = added .before .before .before in
     let other = value .before .before in
-    let pre = other .before .before .before .pre in
-    mixed-only _ _ _ _ _ _ _ (other .if1 .left) (value .if2 .left) (pre .1 .1 .0) (pre .1 .1 .1) (divided .quotient-from .ensures) (added .add-times .ensures)
+    let s = start value in
+    let (degree, lent, factors) = s .pre .0 in
+    let ((few, line, left, right, nonzero), (within, fits)) = s .pre .1 in
+    mixed-only _ _ _ _ _ _ _ (other .if1 .left) (value .if2 .left) within fits
+    (factors (s .args .j) line ∙ factor-over _ degree left right nonzero) (added .add-times .ensures)
 
 pub mix-line-spec : {M : Type 1} → statement M
 mix-line-spec =
@@ -56,9 +58,7 @@ mix-line-spec =
     returns
     element-copy-out-if2
     returns-2
-    element-copy-out-quotient-from
-    element-copy-out-quotient-from-2
-    quotient-from-requires
+    element-copy-out-add-times
     mul-add-times
     add-add-times
     add-times-requires
