@@ -1,22 +1,24 @@
 /* Grenhyrna: marks struck on bar ends, encoded, read and decoded. C99 and C++.
  *
  * Every function is proved to do what is said here for every input: it ends, it reads and writes nothing but the buffers lent, and
- * it needs no set-up. Link libfirmware.a (x86-64); of its host it needs memcpy and memset alone, and less than 25 KB of stack (read
+ * it needs no set-up. Link libfirmware.a (x86-64); of its host it needs memcpy and memset alone, and less than 26 KB of stack (read
  * off the compiled code, and not proved).
  *
- * A code is a field GF(2^degree), columns distinct points (one a column), and rows message lengths k (one a row), each at least 1
- * and below the number of columns, so that every row has check symbols. K is the sum of the lengths. A message is K coefficients, lowest first, row after row. An array is
- * rows · columns symbols, row after row; a code array's row l holds the values at the points of a polynomial with at most k_l
- * coefficients. A symbol is one byte below 2^degree, bit i standing for x^i: sums are exclusive or, and products are reduced by
- * x^2+x+1 (degree 2), x^4+x+1 (degree 4) and x^8+x^5+x^3+x^2+1 (degree 8, the field of ISO/IEC 16022).
+ * A code is a field GF(2^degree), columns distinct points (one a column), as many factors (one a column, none of them zero), and
+ * rows message lengths k (one a row), each at least 1 and below the number of columns, so that every row has check symbols. K is the
+ * sum of the lengths. A message is K coefficients, lowest first, row after row. An array is rows · columns symbols, row after row; a
+ * code array's row l holds, in each column, the column's factor times the value at its point of a polynomial with at most k_l
+ * coefficients. With factors of one it holds the values. A symbol is one byte below 2^degree, bit i standing for x^i: sums are
+ * exclusive or, and products are reduced by x^2+x+1 (degree 2), x^4+x+1 (degree 4) and x^8+x^5+x^3+x^2+1 (degree 8, the field of
+ * ISO/IEC 16022).
  *
  * A ring over GF(q²), q = 2 or 4, is q³ symbols in the order of its points, q a sector, q² sectors; H(m) has the q message lengths
- * (m − j(q+1))/q rounded down, plus 1; m is 3 to 5 for q = 2 and 15 to 59 for q = 4.
+ * (m − j(q+1))/q rounded down, plus 1; m is 3 to 5 for q = 2 and 15 to 59 for q = 4. Rings keep factors of one, and take none.
  *
  * Buffers may not overlap, and a length is the number of bytes behind its pointer. A buffer of no bytes still needs a pointer that
  * is not null.
  *
- * ENCODING AND READING answer GREN_DONE (256) with the result written, or the number of the refusal (1 to 11, 18) with the
+ * ENCODING AND READING answer GREN_DONE (256) with the result written, or the number of the refusal (1 to 11, 18, 23) with the
  * result buffer as it was.
  *
  * DECODING answers 256 · code + detail:
@@ -35,9 +37,10 @@
  * within the limit.
  *
  * DECODING WITH LOST COLUMNS takes a list of them besides, a byte a column, in any order; a ring's list names sectors, from 0. The
- * ending and its detail are those of the array made of the remaining columns, in their order, with their points, and both limits
- * are worked out with the number of remaining columns in place of columns. What was received in a lost column has no influence,
- * but must lie in the field. Received, answer and flags have the lengths that they have without a list:
+ * ending and its detail are those of the array made of the remaining columns, in their order, with their points and factors, and
+ * both limits are worked out with the number of remaining columns in place of columns. What was received in a lost column has no
+ * influence, but must lie in the field. Received, answer and flags have the lengths that they have without a list, and there are as
+ * many factors as columns, lost or not:
  *
  *   code              detail                      answer and flags
  *   GREN_REFUSED 0    number of the refusal       as they were; the working space too
@@ -49,12 +52,18 @@
  *   GREN_HOLLOW 4     size of the locator         as they were
  *
  * With nothing lost it is the decoding above. The working space is as in decoding.
+ *
+ * VERSIONS. From version 2 on the four calls on marks take factors and factor_count right after points and columns. A caller of the
+ * version before, which did not name itself, hands in as many bytes of 1 as there are columns, is compiled anew, and gets the answers
+ * that it got before.
  */
 #ifndef GRENHYRNA_H
 #define GRENHYRNA_H
 
 #include <stddef.h>
 #include <stdint.h>
+
+#define GREN_VERSION 2 /* of these declarations */
 
 #ifdef __cplusplus
 extern "C" {
@@ -86,16 +95,16 @@ static inline uint32_t gren_detail(uint32_t answer)
 /* A column's flag after "corrected". */
 enum { GREN_RIGHT = 0, GREN_WRONG = 1, GREN_LOST = 2 };
 
-/* The numbers of the refusals: the first that applies, in the order of checking, is the answer. Marks check 1, 2, 3, 4, 18, 5, 6, 7,
- * then reading 9 and decoding 8; rings check 10, 11, 18, 5, 7, then reading 9 and decoding 8. With lost columns 16 and 17 come after
- * 7 and before 8; 4, 18, 5, 6 and 7 read all columns, lost or not, and 8 the remaining ones. */
+/* The numbers of the refusals: the first that applies, in the order of checking, is the answer. Marks check 1, 2, 3, 4, 18, 5, 6, 23,
+ * 7, then reading 9 and decoding 8; rings check 10, 11, 18, 5, 7, then reading 9 and decoding 8. With lost columns 16 and 17 come
+ * after 7 and before 8; 4, 18, 5, 6, 23 and 7 read all columns, lost or not, and 8 the remaining ones. */
 enum {
     GREN_BAD_DEGREE = 1,     /* degree is not 2, 4 or 8 */
     GREN_BAD_ROWS = 2,       /* count of the lengths is not 1 to 4 */
     GREN_BAD_COLUMNS = 3,    /* count of the points is not 1 to 96 */
     GREN_BAD_LENGTH = 4,     /* some k is not 1 to the number of columns */
-    GREN_BAD_BUFFER = 5,     /* a buffer's length: message K, array rows·columns (ring q³), flags columns (ring q²), space at least
-                                GREN_SPACE */
+    GREN_BAD_BUFFER = 5,     /* a buffer's length: factors columns, message K, array rows·columns (ring q³), flags columns (ring q²),
+                                space at least GREN_SPACE */
     GREN_BAD_POINT = 6,      /* a point is outside the field or stood earlier in the list */
     GREN_BAD_SYMBOL = 7,     /* a symbol is outside the field */
     GREN_BAD_LIMIT = 8,      /* the trial limit is above the joint limit, with lost columns that of the remaining columns */
@@ -104,27 +113,31 @@ enum {
     GREN_BAD_M = 11,         /* m is not q²−1 to q³−1 */
     GREN_BAD_LOST = 16,      /* a lost column is not below the number of columns or is named twice */
     GREN_TOO_MANY_LOST = 17, /* fewer remaining columns than the largest k */
-    GREN_NO_CHECKS = 18      /* some k equals the number of columns; of a ring, of sectors */
+    GREN_NO_CHECKS = 18,     /* some k equals the number of columns; of a ring, of sectors */
+    GREN_BAD_FACTOR = 23     /* a factor is outside the field or zero */
 };
 
 /* Writes the code array of a message. */
 uint32_t gren_mark_encode(uint32_t degree, const uint8_t *lengths, size_t rows, const uint8_t *points, size_t columns,
-                          const uint8_t *message, size_t message_length, uint8_t *array, size_t array_length);
+                          const uint8_t *factors, size_t factor_count, const uint8_t *message, size_t message_length,
+                          uint8_t *array, size_t array_length);
 
 /* Writes the message of a code array; GREN_NO_CODE_ARRAY where the array is none. */
 uint32_t gren_mark_read(uint32_t degree, const uint8_t *lengths, size_t rows, const uint8_t *points, size_t columns,
-                        const uint8_t *array, size_t array_length, uint8_t *message, size_t message_length);
+                        const uint8_t *factors, size_t factor_count, const uint8_t *array, size_t array_length, uint8_t *message,
+                        size_t message_length);
 
 /* Decodes a received array up to the trial limit. */
 uint32_t gren_mark_decode(uint32_t degree, const uint8_t *lengths, size_t rows, const uint8_t *points, size_t columns,
-                          uint32_t limit, const uint8_t *received, size_t received_length, uint8_t *answer, size_t answer_length,
-                          uint8_t *flags, size_t flags_length, uint8_t *space, size_t space_length);
+                          const uint8_t *factors, size_t factor_count, uint32_t limit, const uint8_t *received,
+                          size_t received_length, uint8_t *answer, size_t answer_length, uint8_t *flags, size_t flags_length,
+                          uint8_t *space, size_t space_length);
 
 /* Decodes a received array some of whose columns are lost. */
 uint32_t gren_mark_decode_lost(uint32_t degree, const uint8_t *lengths, size_t rows, const uint8_t *points, size_t columns,
-                               uint32_t limit, const uint8_t *lost, size_t lost_count, const uint8_t *received,
-                               size_t received_length, uint8_t *answer, size_t answer_length, uint8_t *flags, size_t flags_length,
-                               uint8_t *space, size_t space_length);
+                               const uint8_t *factors, size_t factor_count, uint32_t limit, const uint8_t *lost, size_t lost_count,
+                               const uint8_t *received, size_t received_length, uint8_t *answer, size_t answer_length,
+                               uint8_t *flags, size_t flags_length, uint8_t *space, size_t space_length);
 
 /* Writes the word of H(m) of a message. */
 uint32_t gren_ring_encode(uint32_t q, uint32_t m, const uint8_t *message, size_t message_length, uint8_t *word,

@@ -13,10 +13,11 @@
 
 #include <stdio.h>
 #include <stdlib.h>
+#include <string.h>
 
 enum { HEAD = 5, MOST_BYTES = HEAD + GREN_MOST_ROWS + 1 + GREN_MOST_COLUMNS + GREN_MOST_SYMBOLS };
 
-static uint8_t record[MOST_BYTES], lost[256], answer[GREN_MOST_SYMBOLS], flags[GREN_MOST_COLUMNS], space[GREN_SPACE];
+static uint8_t record[MOST_BYTES], ones[GREN_MOST_COLUMNS], lost[256], answer[GREN_MOST_SYMBOLS], flags[GREN_MOST_COLUMNS], space[GREN_SPACE];
 
 /* The columns of a list like 1,4; answers how many, or -1 where it is no list of bytes. */
 static int read_list(const char *s)
@@ -73,8 +74,9 @@ int main(int argc, char **argv)
     }
     size_t rows = record[3], columns = record[4], symbols = rows * columns;
     const uint8_t *lengths = record + HEAD, *points = lengths + rows + 1, *received = points + columns;
-    uint32_t result = gren_mark_decode_lost(record[2], lengths, rows, points, columns, lengths[rows], lost, (size_t)count, received,
-                                            symbols, answer, symbols, flags, columns, space, sizeof space);
+    memset(ones, 1, sizeof ones); /* the columns of a record have factors of one */
+    uint32_t result = gren_mark_decode_lost(record[2], lengths, rows, points, columns, ones, columns, lengths[rows], lost,
+                                            (size_t)count, received, symbols, answer, symbols, flags, columns, space, sizeof space);
     print_line(result, columns);
     if (gren_code(result) != GREN_CORRECTED)
         return 0;

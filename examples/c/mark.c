@@ -15,6 +15,7 @@ enum { ROWS = 2, COLUMNS = 8, TOTAL = 5, LIMIT = 3 };
 
 static const uint8_t lengths[ROWS] = {2, 3};
 static const uint8_t points[COLUMNS] = {1, 2, 3, 4, 5, 6, 7, 8};
+static const uint8_t factors[COLUMNS] = {1, 1, 1, 1, 1, 1, 1, 1}; /* examples/c/north.c has others */
 static const uint8_t message[TOTAL] = {3, 1, 7, 0, 9};
 
 static uint8_t array[ROWS * COLUMNS], answer[ROWS * COLUMNS], flags[COLUMNS], back[TOTAL], space[GREN_SPACE];
@@ -44,8 +45,8 @@ static int finished(uint32_t result)
 static int decode(void)
 {
     show("received", array);
-    uint32_t result = gren_mark_decode(4, lengths, ROWS, points, COLUMNS, LIMIT, array, sizeof array, answer, sizeof answer, flags,
-                                       sizeof flags, space, sizeof space);
+    uint32_t result = gren_mark_decode(4, lengths, ROWS, points, COLUMNS, factors, sizeof factors, LIMIT, array, sizeof array, answer,
+                                       sizeof answer, flags, sizeof flags, space, sizeof space);
     if (!finished(result))
         return 0;
     show("answer", answer);
@@ -58,14 +59,15 @@ static int decode(void)
 
 int main(void)
 {
-    if (gren_mark_encode(4, lengths, ROWS, points, COLUMNS, message, TOTAL, array, sizeof array) != GREN_DONE)
+    if (gren_mark_encode(4, lengths, ROWS, points, COLUMNS, factors, sizeof factors, message, TOTAL, array, sizeof array) != GREN_DONE)
         return 1;
     show("struck", array);
     array[1] ^= 5, array[COLUMNS + 1] ^= 9; /* a burr over column 1 */
     array[4] ^= 1;                          /* and a pit in column 4 */
     if (!decode())
         return 1;
-    if (gren_mark_read(4, lengths, ROWS, points, COLUMNS, answer, sizeof answer, back, sizeof back) != GREN_DONE)
+    if (gren_mark_read(4, lengths, ROWS, points, COLUMNS, factors, sizeof factors, answer, sizeof answer, back, sizeof back)
+        != GREN_DONE)
         return 1;
     printf("message   ");
     for (size_t i = 0; i < TOTAL; i++)

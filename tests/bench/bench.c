@@ -15,7 +15,7 @@
 
 struct test {
     const char *name;
-    char kind; /* d: decode, e: encode, r: read, h: decode a ring; D and H: with lost columns */
+    char kind; /* d: decode, e: encode, r: read, h: decode a ring; D and H: with lost columns; f: decode, with factors */
     unsigned degree, columns, rows, lengths[4], wrong, lost;
 };
 
@@ -36,9 +36,10 @@ static const struct test tests[] = {
     {"read GF(256) n 96 k 64 x4", 'r', 8, 96, 4, {64, 64, 64, 64}, 0, 0},
     {"GF(256) n 96 k 64 x4, 16 lost, 12 wrong", 'D', 8, 96, 4, {64, 64, 64, 64}, 12, 16},
     {"ring H(37), 4 sectors lost, 2 wrong", 'H', 4, 16, 4, {10, 9, 7, 6}, 2, 4},
+    {"GF(256) n 96 k 64 x4, 25 wrong, factors", 'f', 8, 96, 4, {64, 64, 64, 64}, 25, 0},
 };
 
-static uint8_t lengths[4], points[96], lost[96], message[384], array[384], ring[64], answer[384], flags[96], space[GREN_SPACE];
+static uint8_t lengths[4], points[96], factors[96], lost[96], message[384], array[384], ring[64], answer[384], flags[96], space[GREN_SPACE];
 
 static struct test t;
 static size_t total, symbols;
@@ -72,25 +73,28 @@ static int run(unsigned long count)
 {
     uint32_t got = expected;
     for (unsigned long i = 0; i < count; i++) {
-        if (t.kind == 'd')
-            got = own ? gren_mark_decode(t.degree, lengths, t.rows, points, t.columns, limit, array, symbols, answer, symbols, flags,
-                                         t.columns, space, sizeof space)
+        if (t.kind == 'd' || (t.kind == 'f' && own))
+            got = own ? gren_mark_decode(t.degree, lengths, t.rows, points, t.columns, factors, t.columns, limit, array, symbols,
+                                         answer, symbols, flags, t.columns, space, sizeof space)
                       : plain_decode(lengths, t.rows, points, t.columns, limit, array, answer, flags);
+        else if (t.kind == 'f')
+            got = plain_decode_factors(lengths, t.rows, points, t.columns, factors, limit, array, answer, flags);
         else if (t.kind == 'h')
             got = own ? gren_ring_decode(4, 37, limit, ring, 64, answer, 64, flags, 16, space, sizeof space)
                       : plain_decode(lengths, t.rows, points, t.columns, limit, array, answer, flags);
         else if (t.kind == 'e')
-            got = own ? gren_mark_encode(t.degree, lengths, t.rows, points, t.columns, message, total, answer, symbols)
+            got = own ? gren_mark_encode(t.degree, lengths, t.rows, points, t.columns, factors, t.columns, message, total, answer,
+                                         symbols)
                       : (plain_encode(lengths, t.rows, points, t.columns, message, answer), 256u);
         else if (t.kind == 'D')
-            got = own ? gren_mark_decode_lost(t.degree, lengths, t.rows, points, t.columns, limit, lost, t.lost, array, symbols,
-                                              answer, symbols, flags, t.columns, space, sizeof space)
+            got = own ? gren_mark_decode_lost(t.degree, lengths, t.rows, points, t.columns, factors, t.columns, limit, lost, t.lost,
+                                              array, symbols, answer, symbols, flags, t.columns, space, sizeof space)
                       : plain_decode_lost(lengths, t.rows, points, t.columns, limit, lost, t.lost, array, answer, flags);
         else if (t.kind == 'H')
             got = own ? gren_ring_decode_lost(4, 37, limit, lost, t.lost, ring, 64, answer, 64, flags, 16, space, sizeof space)
                       : plain_decode_lost(lengths, t.rows, points, t.columns, limit, lost, t.lost, array, answer, flags);
         else
-            got = own ? gren_mark_read(t.degree, lengths, t.rows, points, t.columns, array, symbols, answer, total)
+            got = own ? gren_mark_read(t.degree, lengths, t.rows, points, t.columns, factors, t.columns, array, symbols, answer, total)
                       : plain_read(lengths, t.rows, points, t.columns, array, answer) ? 256u
                                                                                       : 9u;
         if (got != expected) {
@@ -120,11 +124,12 @@ int main(int argc, char **argv)
     for (size_t l = 0; l < t.rows; l++)
         total += lengths[l] = (uint8_t)t.lengths[l];
     for (size_t i = 0; i < t.columns; i++)
-        points[i] = (uint8_t)i;
+        points[i] = (uint8_t)i, factors[i] = (uint8_t)(t.kind == 'f' ? i + 1 : 1);
     for (size_t i = 0; i < total; i++)
         message[i] = (uint8_t)below(1u << t.degree);
     plain_field(t.degree);
     plain_encode(lengths, t.rows, points, t.columns, message, array);
+    plain_multiply(t.rows, t.columns, factors, array);
     if (t.kind == 'h' || t.kind == 'H')
         gren_ring_encode(4, 37, message, total, ring, 64);
     for (size_t w = 0; w < t.wrong; w++)

@@ -211,3 +211,23 @@ uint32_t plain_decode_lost(const uint8_t *lengths, size_t rows, const uint8_t *p
         flags[at[i]] = wrong[i];
     return ending;
 }
+
+void plain_multiply(size_t rows, size_t columns, const uint8_t *factors, uint8_t *array)
+{
+    for (size_t l = 0; l < rows; l++)
+        for (size_t i = 0; i < columns; i++)
+            array[l * columns + i] = product(factors[i], array[l * columns + i]);
+}
+
+uint32_t plain_decode_factors(const uint8_t *lengths, size_t rows, const uint8_t *points, size_t columns, const uint8_t *factors,
+                              uint32_t limit, const uint8_t *received, uint8_t *answer, uint8_t *flags)
+{
+    static uint8_t ys[MOST];
+    for (size_t l = 0; l < rows; l++)
+        for (size_t i = 0; i < columns; i++)
+            ys[l * columns + i] = quotient(received[l * columns + i], factors[i]);
+    uint32_t ending = plain_decode(lengths, rows, points, columns, limit, ys, answer, flags);
+    if (ending / 256 == 1)
+        plain_multiply(rows, columns, factors, answer);
+    return ending;
+}

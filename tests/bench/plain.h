@@ -11,4 +11,8 @@ uint32_t plain_decode(const uint8_t *lengths, size_t rows, const uint8_t *points
                       const uint8_t *received, uint8_t *answer, uint8_t *flags);
 uint32_t plain_decode_lost(const uint8_t *lengths, size_t rows, const uint8_t *points, size_t columns, uint32_t limit,
                            const uint8_t *lost, size_t lost_count, const uint8_t *received, uint8_t *answer, uint8_t *flags);
+/* With factors: each column of an array times its factor, and decoding what was struck so. */
+void plain_multiply(size_t rows, size_t columns, const uint8_t *factors, uint8_t *array);
+uint32_t plain_decode_factors(const uint8_t *lengths, size_t rows, const uint8_t *points, size_t columns, const uint8_t *factors,
+                              uint32_t limit, const uint8_t *received, uint8_t *answer, uint8_t *flags);
 #endif

@@ -16,7 +16,7 @@
 #include <time.h>
 #include <unistd.h>
 
-enum { LENGTHS, POINTS, LOST, INPUT, RESULT, FLAGS, SPACE, BUFFERS };
+enum { LENGTHS, POINTS, FACTORS, LOST, INPUT, RESULT, FLAGS, SPACE, BUFFERS };
 
 static struct buffer {
     uint8_t *room, *at, *copy;
@@ -84,11 +84,12 @@ static size_t any_length(size_t right, size_t most)
     return length <= most ? length : most;
 }
 
-static unsigned long ends[2][5], refused, done;
+static unsigned long ends[2][5], refused, refused_for_a_factor, done;
+static int on_mark; /* the call is on a mark: rings have no factors */
 
 static int only_read(void)
 {
-    return as_lent(INPUT) && as_lent(POINTS) && as_lent(LENGTHS) && as_lent(LOST);
+    return as_lent(INPUT) && as_lent(POINTS) && as_lent(FACTORS) && as_lent(LENGTHS) && as_lent(LOST);
 }
 
 /* Each lost column has the flag 2, and as many of the others have 1 as are wrong; the rest have 0. */
@@ -110,7 +111,9 @@ static int decoded(int with_list, uint32_t r)
     uint32_t code = gren_code(r), detail = gren_detail(r);
     int ok = code <= GREN_HOLLOW && inside(RESULT) && inside(FLAGS) && only_read();
     if (code == GREN_REFUSED)
-        ok &= ((detail >= 1 && detail <= 11 && detail != 9) || detail == 18 || (with_list && (detail == 16 || detail == 17))) && as_lent(SPACE);
+        ok &= ((detail >= 1 && detail <= 11 && detail != 9) || detail == 18 || (with_list && (detail == 16 || detail == 17))
+               || (on_mark && detail == GREN_BAD_FACTOR))
+              && as_lent(SPACE);
     else
         ok &= space_cleared();
     if (code == GREN_CORRECTED)
@@ -119,17 +122,19 @@ static int decoded(int with_list, uint32_t r)
         ok &= as_lent(RESULT) && as_lent(FLAGS);
     if (ok)
         ends[with_list][code]++;
+    refused_for_a_factor += r == GREN_BAD_FACTOR;
     return ok;
 }
 
 static int coded(uint32_t r)
 {
-    int ok = (r == GREN_DONE || (r >= 1 && r <= 11 && r != 8) || r == 18) && only_read();
+    int ok = (r == GREN_DONE || (r >= 1 && r <= 11 && r != 8) || r == 18 || (on_mark && r == GREN_BAD_FACTOR)) && only_read();
     ok &= r == GREN_DONE ? inside(RESULT) : as_lent(RESULT);
     if (ok && r == GREN_DONE)
         done++;
     else
         refused++;
+    refused_for_a_factor += r == GREN_BAD_FACTOR;
     return ok;
 }
 
@@ -149,6 +154,18 @@ static void lay_lost(int with_list, size_t columns)
     memcpy(lost->copy, lost->room, lost->size);
 }
 
+/* Factors of one, or any, most of them not zero. */
+static void lay_factors(size_t columns, unsigned symbols)
+{
+    struct buffer *factors = &buffers[FACTORS];
+    lay(FACTORS, any_length(columns, 300), symbols);
+    int ones = chance(3);
+    for (size_t i = 0; i < factors->length; i++)
+        if ((ones || !factors->at[i]) && !chance(200))
+            factors->at[i] = 1;
+    memcpy(factors->copy, factors->room, factors->size);
+}
+
 static int mark(int call)
 {
     static const uint32_t degrees[] = {2, 4, 8};
@@ -157,10 +174,12 @@ static int mark(int call)
     size_t most = symbols < 96 ? symbols : 96, columns = 1 + below((unsigned)most), rows = 1 + below(4), total = 0;
     lay(LENGTHS, any_length(rows, 300), 1 + (unsigned)columns);
     lay(POINTS, any_length(columns, 300), symbols);
-    struct buffer *ks = &buffers[LENGTHS], *xs = &buffers[POINTS], *y = &buffers[INPUT], *a = &buffers[RESULT];
+    struct buffer *ks = &buffers[LENGTHS], *xs = &buffers[POINTS], *fs = &buffers[FACTORS], *y = &buffers[INPUT];
+    struct buffer *a = &buffers[RESULT];
     for (size_t i = 0; i < xs->length && !chance(20); i++)
         xs->at[i] = (uint8_t)i;
     memcpy(xs->copy, xs->room, xs->size);
+    lay_factors(columns, symbols);
     for (size_t l = 0; l < ks->length; l++) {
         if (!ks->at[l] && !chance(20))
             ks->at[l] = 1;
@@ -173,23 +192,26 @@ static int mark(int call)
     if (call == 0) {
         lay(INPUT, any_length(total, 1000), symbols);
         lay(RESULT, any_length(cells, 1000), 256);
-        return coded(gren_mark_encode(asked, ks->at, ks->length, xs->at, xs->length, y->at, y->length, a->at, a->length));
+        return coded(gren_mark_encode(asked, ks->at, ks->length, xs->at, xs->length, fs->at, fs->length, y->at, y->length, a->at,
+                                      a->length));
     }
     lay(INPUT, any_length(cells, 1000), chance(3) ? 1 : chance(3) ? 2 : symbols);
     if (call == 1) {
         lay(RESULT, any_length(total, 1000), 256);
-        return coded(gren_mark_read(asked, ks->at, ks->length, xs->at, xs->length, y->at, y->length, a->at, a->length));
+        return coded(gren_mark_read(asked, ks->at, ks->length, xs->at, xs->length, fs->at, fs->length, y->at, y->length, a->at,
+                                    a->length));
     }
     lay(RESULT, any_length(cells, 1000), 256);
     lay(FLAGS, any_length(columns, 300), 256);
     lay(SPACE, chance(12) ? below(16 * 4096) : GREN_SPACE + below(100), 256);
     uint32_t limit = any_number(below((unsigned)columns));
     if (call == 2)
-        return decoded(0, gren_mark_decode(asked, ks->at, ks->length, xs->at, xs->length, limit, y->at, y->length, a->at, a->length,
-                                           buffers[FLAGS].at, buffers[FLAGS].length, buffers[SPACE].at, buffers[SPACE].length));
-    return decoded(1, gren_mark_decode_lost(asked, ks->at, ks->length, xs->at, xs->length, limit / 2, buffers[LOST].at,
-                                            buffers[LOST].length, y->at, y->length, a->at, a->length, buffers[FLAGS].at,
-                                            buffers[FLAGS].length, buffers[SPACE].at, buffers[SPACE].length));
+        return decoded(0, gren_mark_decode(asked, ks->at, ks->length, xs->at, xs->length, fs->at, fs->length, limit, y->at, y->length,
+                                           a->at, a->length, buffers[FLAGS].at, buffers[FLAGS].length, buffers[SPACE].at,
+                                           buffers[SPACE].length));
+    return decoded(1, gren_mark_decode_lost(asked, ks->at, ks->length, xs->at, xs->length, fs->at, fs->length, limit / 2,
+                                            buffers[LOST].at, buffers[LOST].length, y->at, y->length, a->at, a->length,
+                                            buffers[FLAGS].at, buffers[FLAGS].length, buffers[SPACE].at, buffers[SPACE].length));
 }
 
 static int ring(int call)
@@ -200,6 +222,7 @@ static int ring(int call)
         total += (m - j * (q + 1)) / q + 1;
     lay(LENGTHS, 0, 1);
     lay(POINTS, 0, 1);
+    lay(FACTORS, 0, 1);
     lay_lost(call == 3, q * q);
     struct buffer *y = &buffers[INPUT], *a = &buffers[RESULT];
     uint32_t asked = any_number(q), order = any_number(m);
@@ -229,14 +252,16 @@ static int calls(double seconds, unsigned long seed)
     do {
         for (int i = 0; i < 100; i++, n++) {
             int call = (int)below(4);
-            if (!(chance(3) ? ring(call) : mark(call))) {
+            on_mark = !chance(3);
+            if (!(on_mark ? mark(call) : ring(call))) {
                 printf("fuzz: seed %lu, call %lu: a number or a buffer is not as promised\n", seed, n);
                 return 1;
             }
         }
         clock_gettime(CLOCK_MONOTONIC, &now);
     } while ((double)(now.tv_sec - began.tv_sec) + (double)(now.tv_nsec - began.tv_nsec) / 1e9 < seconds);
-    printf("fuzz: seed %lu: %lu calls: %lu done, %lu refused\n", seed, n, done, refused);
+    printf("fuzz: seed %lu: %lu calls: %lu done, %lu refused; of all, %lu refused for a factor\n", seed, n, done, refused,
+           refused_for_a_factor);
     for (int with_list = 0; with_list < 2; with_list++) {
         unsigned long *e = ends[with_list];
         printf("fuzz: decodings with %s: %lu corrected, %lu none, %lu several, %lu hollow, %lu refused\n",

@@ -1,10 +1,10 @@
-/* The records of standard input by the second program: parsed here once more from 01's words, decoded by second_mark_decode. The
- * whole input is read first. */
+/* The records of standard input by the second program: parsed here once more from 01's words, decoded by second_mark_decode with
+ * factors of one (02, 2026-11). The whole input is read first. */
 #include "../second/second.h"
 #include <stdio.h>
 #include <string.h>
 
-static uint8_t in[1 << 20], space[SECOND_SPACE];
+static uint8_t in[1 << 20], ones[96], space[SECOND_SPACE];
 
 static void line(unsigned long number, uint32_t answer, const uint8_t *flags, size_t n)
 {
@@ -26,6 +26,7 @@ int main(void)
 {
     size_t length = fread(in, 1, sizeof in, stdin), at = 0;
     unsigned long number = 1;
+    memset(ones, 1, sizeof ones);
     for (; at < length; number++) {
         const uint8_t *b = in + at;
         size_t left = length - at, r, n, size;
@@ -43,8 +44,8 @@ int main(void)
         if (left < size)
             return line(number, 13, 0, 0), 0;
         line(number,
-             second_mark_decode(b[2], b + 5, r, b + 6 + r, n, b[5 + r], b + 6 + r + n, r * n, answer, r * n, flags, n, space,
-                                sizeof space),
+             second_mark_decode(b[2], b + 5, r, b + 6 + r, n, ones, n, b[5 + r], b + 6 + r + n, r * n, answer, r * n, flags, n,
+                                space, sizeof space),
              flags, n);
         at += size;
     }

@@ -5,7 +5,7 @@
 
 #include <stdlib.h>
 
-enum { CASE = 1000 };
+enum { CASE = 1500 };
 
 static char text[CASE];
 static const char *rest; /* what is left of the text */
@@ -72,6 +72,8 @@ static void read_argument(void)
         frame[6] = (uint8_t)numbers(frame + LENGTHS, MOST_LENGTHS);
     else if (word("points "))
         frame[7] = (uint8_t)numbers(frame + POINTS, MOST_POINTS);
+    else if (word("factors "))
+        frame[FACTOR_COUNT] = (uint8_t)numbers(frame + FACTORS, MOST_FACTORS);
     else if (word("lost "))
         frame[LOST_COUNT] = (uint8_t)numbers(frame + LOST, MOST_LOST);
     else if (word("symbols "))
@@ -90,14 +92,18 @@ static void read_call(void)
 {
     static const char *const calls[] = {"encode:",      "read:",            "decode:",      "ring encode:", "ring read:",
                                         "ring decode:", "ring decode lost:", "decode lost:", NULL};
+    int factors_given = 0;
     memset(frame, 0, sizeof frame);
     while (calls[frame[0]] && !word(calls[frame[0]]))
         frame[0]++;
     if (!calls[frame[0]])
         bad_case("no call");
-    do
+    do {
+        factors_given |= !strncmp(rest + strspn(rest, " "), "factors ", 8);
         read_argument();
-    while (word(","));
+    } while (word(","));
+    if (!factors_given)
+        set_ones(frame[7]);
 }
 
 /* What a buffer is to hold: as many numbers as it has places. */

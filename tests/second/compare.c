@@ -1,5 +1,5 @@
 /* Compares the static library with the second program over many random calls: all fields, lengths, limits, endings and refusals,
- * and lists of lost columns. Every buffer has guard bytes around it; what a call must not change is compared byte by byte, and so is
+ * column factors, and lists of lost columns. Every buffer has guard bytes around it; what a call must not change is compared byte by byte, and so is
  * the working space.
  *
  *   compare [COUNT [SEED]]    COUNT calls, and half as many with lost columns
@@ -48,13 +48,25 @@ enum { EMPTY, FRONT, BACK, ANY_ORDER, FALLING, ALL_BUT_LARGEST, TOO_MANY, TWICE,
 static const char *const shapes[] = {"empty",    "the first", "the last",     "any order", "falling", "all but k_max",
                                      "too many", "twice",     "out of range", "all",       "too long"};
 
+/* What the factors are like; the first two are good. */
+enum { ONES, ANY, ZERO, OUTSIDE, MISSING, SPARE_FACTOR, FACTORS };
+static const char *const factor_lists[] = {"all one", "any", "a zero", "one outside", "one missing", "one spare"};
+
+/* Two checks that both refuse a call: the first number is the answer. For 16 stands a bad list of lost columns. */
+static const struct {
+    uint8_t answer, other;
+} orders[] = {{18, 5}, {5, 6}, {5, 23}, {6, 23}, {23, 7}, {23, 16}, {23, 8}};
+enum { ORDERS = sizeof orders / sizeof *orders };
+
 /* What came about, and of the lists how many were looked at, no earlier check having refused the call. */
 static struct {
     unsigned long endings[KINDS][5], refusals[KINDS][32], done;
     unsigned long looked_at[SHAPES], tight_calls, nothing_wrong, bad_where_lost;
+    unsigned long factors[FACTORS], orders[ORDERS], not_read_for_a_factor, corrected_for_a_factor;
 } tried;
 
-static struct buffer lengths, points, lost, first, second, flags;
+static struct buffer lengths, points, factors, lost, first, second, flags;
+static int factors_are; /* what the factors are like */
 static uint8_t space[2][GUARD + SECOND_SPACE + SPARE + GUARD];
 static size_t space_length;
 
@@ -70,7 +82,7 @@ static void fill_space(void)
 
 static int same(const char *what, uint32_t a, uint32_t b)
 {
-    struct buffer *buffers[] = {&lengths, &points, &lost, &first, &second, &flags};
+    struct buffer *buffers[] = {&lengths, &points, &factors, &lost, &first, &second, &flags};
     int ok = a == b;
     for (size_t i = 0; i < sizeof buffers / sizeof *buffers; i++)
         ok &= !memcmp(buffers[i]->all[0], buffers[i]->all[1], sizeof buffers[i]->all[0]);
@@ -93,6 +105,69 @@ static void count_result(int kind, uint32_t answer)
         tried.done++;
     else
         tried.refusals[kind][answer]++;
+}
+
+static unsigned any_but_zero(unsigned symbols)
+{
+    return 1 + below(symbols - 1);
+}
+
+/* Lays factors, nearly always good ones. */
+static void random_factors(uint32_t degree, size_t columns)
+{
+    unsigned turn = below(40), symbols = 1u << degree, at = below((unsigned)columns);
+    factors_are = turn < 4 ? ZERO + (int)turn : turn < 16 ? ONES : ANY;
+    if (factors_are == OUTSIDE && degree == 8)
+        factors_are = ANY;
+    fill(&factors, columns + (factors_are == SPARE_FACTOR) - (factors_are == MISSING), 256);
+    for (size_t i = 0; i < columns; i++)
+        own(&factors, 0)[i] = (uint8_t)(factors_are == ONES ? 1 : any_but_zero(symbols));
+    if (factors_are == ZERO || (factors_are == SPARE_FACTOR && chance(2)))
+        own(&factors, 0)[at] = 0;
+    if (factors_are == OUTSIDE)
+        own(&factors, 0)[at] = (uint8_t)(chance(2) ? symbols : symbols + below(256 - symbols));
+    both(&factors);
+}
+
+/* Another factor in one column; answers whether it is another. */
+static int change_factor(unsigned symbols, size_t columns)
+{
+    uint8_t *one = own(&factors, 0) + below((unsigned)columns), before = *one;
+    *one = (uint8_t)any_but_zero(symbols);
+    both(&factors);
+    return *one != before;
+}
+
+/* Whether a check refuses the call, whatever the checks before it do. */
+static int refuses(unsigned check, uint32_t degree, size_t columns, const struct buffer *symbols, int bad_list, int over)
+{
+    const uint8_t *x = points.all[0] + GUARD, *f = factors.all[0] + GUARD, *y = symbols->all[0] + GUARD;
+    int bad = 0;
+    switch (check) {
+    case 5: return factors.length != columns;
+    case 6:
+        for (size_t i = 0; i < columns; i++)
+            bad |= x[i] >> degree || memchr(x, x[i], i) != NULL;
+        return bad;
+    case 23:
+        for (size_t i = 0; i < factors.length; i++)
+            bad |= f[i] >> degree || !f[i];
+        return bad;
+    case 7:
+        for (size_t i = 0; i < symbols->length; i++)
+            bad |= y[i] >> degree;
+        return bad;
+    case 16: return bad_list;
+    default: return over;
+    }
+}
+
+/* Counts what a call's factors were, and that a second check would refuse it too. */
+static void count_code(uint32_t answer, uint32_t degree, size_t columns, const struct buffer *symbols, int bad_list, int over)
+{
+    tried.factors[factors_are]++;
+    for (int i = 0; i < ORDERS; i++)
+        tried.orders[i] += answer == orders[i].answer && refuses(orders[i].other, degree, columns, symbols, bad_list, over);
 }
 
 /* A code, nearly always a valid one; the degree is answered. */
@@ -123,6 +198,9 @@ static uint32_t random_code(size_t *rows, size_t *columns, int small)
         } while (j < i);
         own(&points, 0)[i] = x;
     }
+    random_factors(degree, *columns);
+    if (factors_are > ANY && chance(4))
+        own(&points, 0)[*columns - 1] = own(&points, 0)[0];
     switch (below(60)) {
     case 0: degree = below(12) + (chance(3) ? 256 : 0); break;
     case 1: lengths.length = *rows = chance(2) ? 0 : 5 + below(3); break;
@@ -165,10 +243,10 @@ static void spoil_symbol(struct buffer *b, uint32_t degree)
 
 static uint32_t encode_both(uint32_t degree, size_t rows, size_t columns, uint32_t *other)
 {
-    *other = second_mark_encode(degree, own(&lengths, 1), rows, own(&points, 1), columns, own(&first, 1), first.length,
-                                own(&second, 1), second.length);
-    return gren_mark_encode(degree, own(&lengths, 0), rows, own(&points, 0), columns, own(&first, 0), first.length, own(&second, 0),
-                            second.length);
+    *other = second_mark_encode(degree, own(&lengths, 1), rows, own(&points, 1), columns, own(&factors, 1), factors.length,
+                                own(&first, 1), first.length, own(&second, 1), second.length);
+    return gren_mark_encode(degree, own(&lengths, 0), rows, own(&points, 0), columns, own(&factors, 0), factors.length,
+                            own(&first, 0), first.length, own(&second, 0), second.length);
 }
 
 static int compare_mark_coding(void)
@@ -182,49 +260,50 @@ static int compare_mark_coding(void)
     fill_space();
     a = encode_both(degree, rows, columns, &b);
     count_result(MARKS, a);
+    count_code(a, degree, columns, &first, 0, 0);
     if (!same("encoding", a, b))
         return 0;
     if (a != GREN_DONE)
         return 1;
-    /* read it back, now and then with a wrong symbol or two */
+    /* read it back, now and then with a wrong symbol or two, or with another factor */
     struct buffer array = second;
-    for (unsigned wrong = chance(2) ? 0 : 1 + below(2); wrong; wrong--)
+    unsigned wrong = chance(2) ? 0 : 1 + below(2);
+    int other = chance(4) && change_factor(symbols, columns) && !wrong;
+    for (; wrong; wrong--)
         own(&array, 0)[below((unsigned)array.length)] ^= (uint8_t)(1 + below(symbols - 1));
     both(&array);
     second = array;
     spoil_symbol(&second, degree);
     fill(&first, spoil_length(message_length(rows)), 256);
-    a = gren_mark_read(degree, own(&lengths, 0), rows, own(&points, 0), columns, own(&second, 0), second.length, own(&first, 0),
-                       first.length);
-    b = second_mark_read(degree, own(&lengths, 1), rows, own(&points, 1), columns, own(&second, 1), second.length, own(&first, 1),
-                         first.length);
+    a = gren_mark_read(degree, own(&lengths, 0), rows, own(&points, 0), columns, own(&factors, 0), factors.length, own(&second, 0),
+                       second.length, own(&first, 0), first.length);
+    b = second_mark_read(degree, own(&lengths, 1), rows, own(&points, 1), columns, own(&factors, 1), factors.length,
+                         own(&second, 1), second.length, own(&first, 1), first.length);
     count_result(MARKS, a);
+    tried.not_read_for_a_factor += other && a == GREN_NO_CODE_ARRAY;
     return same("reading", a, b);
 }
 
 static int compare_mark_decoding(void)
 {
     size_t rows, columns;
-    uint32_t degree = random_code(&rows, &columns, 1), a, b, limit = 0;
+    uint32_t degree = random_code(&rows, &columns, 1), a, b, limit;
+    int other = 0, fits = rows >= 1 && rows <= 4 && columns >= 1 && columns <= 96;
     unsigned symbols = degree == 2 || degree == 4 ? 1u << degree : 256;
-    if (rows >= 1 && rows <= 4 && columns >= 1 && columns <= 96) {
-        int fits = 1;
-        for (size_t l = 0; l < rows; l++)
-            fits &= own(&lengths, 0)[l] >= 1 && own(&lengths, 0)[l] <= columns;
-        if (fits)
-            limit = below(second_joint_limit(own(&lengths, 0), rows, columns) + 1);
-        if (fits && chance(2))
-            limit = second_joint_limit(own(&lengths, 0), rows, columns);
-    }
+    for (size_t l = 0; fits && l < rows; l++)
+        fits &= own(&lengths, 0)[l] >= 1 && own(&lengths, 0)[l] <= columns;
+    unsigned joint = fits ? second_joint_limit(own(&lengths, 0), rows, columns) : 0;
+    limit = chance(2) ? joint : below(joint + 1);
     if (columns > 20 && limit > 3)
         limit = 1 + below(3);
-    if (chance(50))
+    if (chance(factors_are > ANY ? 10 : 50))
         limit += 1 + below(300);
     fill(&first, message_length(rows), symbols);
     fill(&second, rows * columns < ROOM ? rows * columns : 0, 256);
     fill_space();
     if (encode_both(degree, rows, columns, &b) == GREN_DONE) {
         unsigned wrong = chance(4) ? below((unsigned)columns + 1) : below(limit + 2);
+        other = chance(8) && change_factor(symbols, columns) && !wrong;
         for (; wrong; wrong--) {
             size_t i = below((unsigned)columns);
             for (size_t l = 0; l < rows; l++)
@@ -234,17 +313,22 @@ static int compare_mark_decoding(void)
         if (chance(5))
             for (size_t i = 0; i < rows * columns; i++)
                 own(&second, 0)[i] = (uint8_t)below(symbols);
-    }
+    } else if (chance(2))
+        fill(&second, second.length, symbols);
     both(&second);
     spoil_symbol(&second, degree);
     second.length = spoil_length(second.length);
     fill(&first, spoil_length(rows * columns < ROOM ? rows * columns : 0), 256);
     fill(&flags, spoil_length(columns), 256);
-    a = gren_mark_decode(degree, own(&lengths, 0), rows, own(&points, 0), columns, limit, own(&second, 0), second.length,
-                         own(&first, 0), first.length, own(&flags, 0), flags.length, space[0] + GUARD, space_length);
-    b = second_mark_decode(degree, own(&lengths, 1), rows, own(&points, 1), columns, limit, own(&second, 1), second.length,
-                           own(&first, 1), first.length, own(&flags, 1), flags.length, space[1] + GUARD, space_length);
+    a = gren_mark_decode(degree, own(&lengths, 0), rows, own(&points, 0), columns, own(&factors, 0), factors.length, limit,
+                         own(&second, 0), second.length, own(&first, 0), first.length, own(&flags, 0), flags.length,
+                         space[0] + GUARD, space_length);
+    b = second_mark_decode(degree, own(&lengths, 1), rows, own(&points, 1), columns, own(&factors, 1), factors.length, limit,
+                           own(&second, 1), second.length, own(&first, 1), first.length, own(&flags, 1), flags.length,
+                           space[1] + GUARD, space_length);
     count_decoding(MARKS, a);
+    count_code(a, degree, columns, &second, 0, limit > joint);
+    tried.corrected_for_a_factor += other && a == 257;
     return same("decoding", a, b);
 }
 
@@ -445,9 +529,10 @@ static uint32_t library_lost(const struct call *c, int which)
     return c->ring ? gren_ring_decode_lost(c->degree, c->m, c->limit, own(&lost, which), lost.length, own(&second, which),
                                            second.length, own(&first, which), first.length, own(&flags, which), flags.length,
                                            space[which] + GUARD, space_length)
-                   : gren_mark_decode_lost(c->degree, own(&lengths, which), c->rows, own(&points, which), c->columns, c->limit,
-                                           own(&lost, which), lost.length, own(&second, which), second.length, own(&first, which),
-                                           first.length, own(&flags, which), flags.length, space[which] + GUARD, space_length);
+                   : gren_mark_decode_lost(c->degree, own(&lengths, which), c->rows, own(&points, which), c->columns,
+                                           own(&factors, which), factors.length, c->limit, own(&lost, which), lost.length,
+                                           own(&second, which), second.length, own(&first, which), first.length,
+                                           own(&flags, which), flags.length, space[which] + GUARD, space_length);
 }
 
 static uint32_t second_lost(const struct call *c)
@@ -455,18 +540,19 @@ static uint32_t second_lost(const struct call *c)
     return c->ring ? second_ring_decode_lost(c->degree, c->m, c->limit, own(&lost, 1), lost.length, own(&second, 1), second.length,
                                              own(&first, 1), first.length, own(&flags, 1), flags.length, space[1] + GUARD,
                                              space_length)
-                   : second_mark_decode_lost(c->degree, own(&lengths, 1), c->rows, own(&points, 1), c->columns, c->limit,
-                                             own(&lost, 1), lost.length, own(&second, 1), second.length, own(&first, 1),
-                                             first.length, own(&flags, 1), flags.length, space[1] + GUARD, space_length);
+                   : second_mark_decode_lost(c->degree, own(&lengths, 1), c->rows, own(&points, 1), c->columns, own(&factors, 1),
+                                             factors.length, c->limit, own(&lost, 1), lost.length, own(&second, 1), second.length,
+                                             own(&first, 1), first.length, own(&flags, 1), flags.length, space[1] + GUARD,
+                                             space_length);
 }
 
 static uint32_t without_list(const struct call *c)
 {
     return c->ring ? gren_ring_decode(c->degree, c->m, c->limit, own(&second, 1), second.length, own(&first, 1), first.length,
                                       own(&flags, 1), flags.length, space[1] + GUARD, space_length)
-                   : gren_mark_decode(c->degree, own(&lengths, 1), c->rows, own(&points, 1), c->columns, c->limit, own(&second, 1),
-                                      second.length, own(&first, 1), first.length, own(&flags, 1), flags.length, space[1] + GUARD,
-                                      space_length);
+                   : gren_mark_decode(c->degree, own(&lengths, 1), c->rows, own(&points, 1), c->columns, own(&factors, 1),
+                                      factors.length, c->limit, own(&second, 1), second.length, own(&first, 1), first.length,
+                                      own(&flags, 1), flags.length, space[1] + GUARD, space_length);
 }
 
 /* The library against the second program, against itself with other symbols in the lost columns, and with nothing lost against the
@@ -479,6 +565,8 @@ static int compare_lost(const struct call *c, size_t down, size_t across, unsign
     memcpy(lent_space, space[0], sizeof space[0]);
     uint32_t a = library_lost(c, 0), b = second_lost(c);
     count_lost(c, a);
+    if (!c->ring)
+        count_code(a, c->degree, c->columns, &second, c->shape >= TOO_MANY, 0);
     if (!same(c->ring ? "decoding a ring with lost sectors" : "decoding with lost columns", a, b))
         return 0;
     if (lost.length && gren_code(a) == GREN_REFUSED && a != GREN_BAD_LOST && a != GREN_TOO_MANY_LOST && a != GREN_BAD_LIMIT)
@@ -513,6 +601,8 @@ static int compare_mark_lost(void)
     fill_space();
     if (encode_both(c.degree, c.rows, c.columns, &b) == GREN_DONE)
         damage(c.rows, c.columns, c.columns, 1, c.limit, symbols);
+    else if (chance(2))
+        fill(&second, cells, symbols);
     both(&second);
     if (cells)
         c.bad_lost = spoil_received(c.rows, c.columns, c.columns, 1, symbols);
@@ -576,9 +666,9 @@ static void make_dirt(void)
 static int print_counts(void)
 {
     static const char *const names[KINDS] = {"marks", "rings", "marks with lost columns", "rings with lost sectors"};
-    static const uint8_t checks[KINDS][12] = {{1, 2, 3, 4, 18, 5, 6, 7, 8, 9},
+    static const uint8_t checks[KINDS][13] = {{1, 2, 3, 4, 18, 5, 6, 23, 7, 8, 9},
                                               {10, 11, 18, 5, 7, 8, 9},
-                                              {1, 2, 3, 4, 18, 5, 6, 7, 16, 17, 8},
+                                              {1, 2, 3, 4, 18, 5, 6, 23, 7, 16, 17, 8},
                                               {10, 11, 18, 5, 7, 16, 17, 8}};
     int missing = 0;
     for (int kind = 0; kind < KINDS; kind++) {
@@ -601,6 +691,19 @@ static int print_counts(void)
     printf("; decoded with k_max columns remaining %lu, corrected with nothing wrong %lu, refused for a symbol in a lost column %lu\n",
            tried.tight_calls, tried.nothing_wrong, tried.bad_where_lost);
     missing |= !tried.tight_calls || !tried.nothing_wrong || !tried.bad_where_lost;
+    printf("compare: factors");
+    for (int shape = 0; shape < FACTORS; shape++) {
+        printf("%s %s %lu", shape ? "," : "", factor_lists[shape], tried.factors[shape]);
+        missing |= !tried.factors[shape];
+    }
+    printf("; another factor in one column: not read %lu, corrected there %lu; two refusals", tried.not_read_for_a_factor,
+           tried.corrected_for_a_factor);
+    missing |= !tried.not_read_for_a_factor || !tried.corrected_for_a_factor;
+    for (int i = 0; i < ORDERS; i++) {
+        printf(" %u before %u: %lu", orders[i].answer, orders[i].other, tried.orders[i]);
+        missing |= !tried.orders[i];
+    }
+    printf("\n");
     if (missing && count >= 20000)
         printf("compare: something was never tried: a count is 0\n");
     return missing && count >= 20000;

@@ -1,6 +1,6 @@
 /* The calls of the comparing program (crates/compared), and what it is to write: the named cases; then frames of random calls, right
- * and wrong ones, over all fields, then such with lost columns. The answers are the second program's, and in a named case they must
- * be the expected ones.
+ * and wrong ones, over all fields, then such with lost columns, all with factors of one; then such with factors. The answers are the
+ * second program's, and in a named case they must be the expected ones.
  *
  *   compared in|out FILE CASES
  */
@@ -8,7 +8,7 @@
 #include "frame.h"
 #include "random.h"
 
-enum { CALLS = 600, LOST_CALLS = 240 };
+enum { CALLS = 600, LOST_CALLS = 240, FACTOR_CALLS = 240 };
 
 /* A length that is right but now and then. */
 static size_t spoilt(size_t length)
@@ -87,13 +87,35 @@ static void spoil_lost(unsigned columns, unsigned rows, unsigned across, unsigne
             frame[SYMBOLS + frame[LOST + z] * across + l * down] = (uint8_t)(chance(60) ? next() : below(size));
 }
 
-static void mark_call(unsigned call)
+/* Lays factors that are not zero. */
+static void random_factors(unsigned columns, unsigned size)
+{
+    frame[FACTOR_COUNT] = (uint8_t)columns;
+    for (unsigned i = 0; i < columns; i++)
+        frame[FACTORS + i] = (uint8_t)(1 + below(size - 1));
+}
+
+/* Now and then a factor that is zero, outside the field, another than before, missing or spare. */
+static void spoil_factors(unsigned columns, unsigned size)
+{
+    uint8_t *one = frame + FACTORS + below(columns);
+    switch (below(20)) {
+    case 0: *one = 0; break;
+    case 1: *one = (uint8_t)(chance(2) ? size : 255); break;
+    case 2: *one = (uint8_t)(1 + below(size - 1)); break;
+    case 3: frame[FACTOR_COUNT]--; break;
+    case 4: frame[FACTORS + frame[FACTOR_COUNT]++] = 1; break;
+    default: break;
+    }
+}
+
+static void mark_call(unsigned call, int with_factors)
 {
     static const unsigned degrees[] = {2, 4, 8};
     unsigned degree = degrees[below(3)], size = 1u << degree, rows = 1 + below(4), columns = chance(40) ? 1 : 2 + below(size < 12 ? size - 1 : 11);
     if (degree == 8 && call < 2 && chance(4))
         columns = 60 + below(37);
-    uint8_t ks[7], xs[97], message[385], array[384];
+    uint8_t ks[7], xs[97], message[385], array[384] = {0};
     size_t total = 0;
     for (unsigned l = 0; l < 7; l++)
         ks[l] = (uint8_t)(chance(80) ? columns : 1 + below(chance(2) && columns > 1 ? columns - 1 : (columns + 2) / 3));
@@ -104,6 +126,10 @@ static void mark_call(unsigned call)
             xs[i] = (uint8_t)below(size);
         while (used[xs[i]]++);
     }
+    if (with_factors)
+        random_factors(columns, size);
+    else
+        set_ones(columns);
     unsigned largest = 0;
     for (unsigned l = 0; l < rows; l++)
         largest = ks[l] > largest ? ks[l] : largest;
@@ -113,7 +139,7 @@ static void mark_call(unsigned call)
     random_symbols(size);
     if (call > 0) {
         memcpy(message, frame + SYMBOLS, 385);
-        second_mark_encode(degree, ks, rows, xs, columns, message, total, array, rows * columns);
+        second_mark_encode(degree, ks, rows, xs, columns, frame + FACTORS, columns, message, total, array, rows * columns);
         memcpy(frame + SYMBOLS, array, rows * columns);
         if (call >= 2)
             damage(columns, rows, 1, columns, limit, size);
@@ -135,6 +161,8 @@ static void mark_call(unsigned call)
     case 4: frame[SYMBOLS + below((unsigned)(call == 0 ? total : rows * columns))] = (uint8_t)next(); break;
     default: break;
     }
+    if (with_factors)
+        spoil_factors(columns, size);
 }
 
 static void ring_call(unsigned call)
@@ -170,11 +198,14 @@ static void ring_call(unsigned call)
 
 static void random_call(unsigned i)
 {
+    static const uint8_t marks[] = {0, 1, 2, MARK_LOST};
     memset(frame, 0, sizeof frame);
-    if (i % 3 == 2)
+    if (i >= CALLS + LOST_CALLS)
+        mark_call(marks[i % 4], 1);
+    else if (i % 3 == 2)
         ring_call(i < CALLS ? 3 + i / 3 % 3 : RING_LOST);
     else
-        mark_call(i < CALLS ? i / 3 % 3 : MARK_LOST);
+        mark_call(i < CALLS ? i / 3 % 3 : MARK_LOST, 0);
 }
 
 /* The frame, or its line, which is the expected one where there is one. */
@@ -209,9 +240,11 @@ int main(int argc, char **argv)
     while (next_case(cases, expected))
         put(to, wants_input, expected);
     state = 0x2545F4914F6CDD1Du;
-    for (unsigned i = 0; i < CALLS + LOST_CALLS; i++) {
+    for (unsigned i = 0; i < CALLS + LOST_CALLS + FACTOR_CALLS; i++) {
         if (i == CALLS) /* from here each ending and each refusal comes about, of marks and of rings */
             state = 167 * 0x9E3779B97F4A7C15u;
+        if (i == CALLS + LOST_CALLS) /* and from here each of marks with factors, the endings without lost columns and with them */
+            state = 4 * 0x9E3779B97F4A7C15u;
         random_call(i);
         put(to, wants_input, NULL);
     }

@@ -1,6 +1,7 @@
 /* Makes the stored input and output of the program `desk_runs`: marks put together on a desk in several orders, damaged and
- * mended columns, refused puts and refused openings. The desk is written from 01's definitions: a row fits where the polynomial
- * through its first k symbols (Lagrange) has its other symbols as values.
+ * mended columns, refused puts and refused openings, with factors of one; then the same with factors. The desk is written from 01's
+ * definitions and 02's: y is the symbol divided by its column's factor, and a row fits where the polynomial through its first k y
+ * (Lagrange) has its other y as values.
  *
  *   desk in FILE    writes the input
  *   desk out FILE   writes the answers
@@ -10,25 +11,31 @@
 #include <stdio.h>
 #include <string.h>
 
-enum { FRAME = 32, POINTS = 20, LENGTHS = 7 };
+enum { FRAME = 53, POINTS = 20, LENGTHS = 7, FACTOR_COUNT = 32, FACTORS = 33, MOST_FACTORS = 20 };
 
 /* ---- the desk */
 
 struct desk {
     unsigned degree, n, r;
-    unsigned x[16], k[4];
+    unsigned x[16], factor[16], k[4];
     unsigned symbol[4][16];
 };
 
-/* the value at y of the polynomial of at most k coefficients that has the row's first k symbols at its first k points */
-static unsigned through(const struct desk *d, unsigned row, unsigned y)
+/* 'in the desk's interpolation y is the symbol divided by its column's factor' */
+static unsigned divided(const struct desk *d, unsigned row, unsigned column)
+{
+    return second_quotient(d->degree, d->symbol[row][column], d->factor[column]);
+}
+
+/* the value at a point of the polynomial of at most k coefficients that has the row's first k y at its first k points */
+static unsigned through(const struct desk *d, unsigned row, unsigned point)
 {
     unsigned sum = 0;
     for (unsigned i = 0; i < d->k[row]; i++) {
-        unsigned above = d->symbol[row][i], below = 1;
+        unsigned above = divided(d, row, i), below = 1;
         for (unsigned j = 0; j < d->k[row]; j++)
             if (j != i) {
-                above = second_product(d->degree, above, y ^ d->x[j]);
+                above = second_product(d->degree, above, point ^ d->x[j]);
                 below = second_product(d->degree, below, d->x[i] ^ d->x[j]);
             }
         sum ^= second_quotient(d->degree, above, below);
@@ -41,20 +48,24 @@ static unsigned verdict(const struct desk *d)
     unsigned bad = 0;
     for (unsigned row = 0; row < d->r; row++)
         for (unsigned i = d->k[row]; i < d->n; i++)
-            if (through(d, row, d->x[i]) != d->symbol[row][i]) {
+            if (through(d, row, d->x[i]) != divided(d, row, i)) {
                 bad++;
                 break;
             }
     return bad;
 }
 
-static void zero_desk(struct desk *d, unsigned degree, unsigned n, const unsigned *x, unsigned r, const unsigned *k)
+/* The factors that an opening hands in: n of one but where a run says otherwise. */
+static unsigned factors[MOST_FACTORS], factor_count;
+
+static void zero_desk(struct desk *d, unsigned degree, unsigned n, const unsigned *x, const unsigned *f, unsigned r, const unsigned *k)
 {
     memset(d, 0, sizeof *d);
     d->degree = degree;
     d->n = n;
     d->r = r;
     memcpy(d->x, x, n * sizeof *x);
+    memcpy(d->factor, f, n * sizeof *f);
     memcpy(d->k, k, r * sizeof *k);
 }
 
@@ -72,6 +83,8 @@ static unsigned open_refusal(unsigned degree, unsigned n, const unsigned *x, uns
     for (unsigned l = 0; l < r; l++)
         if (k[l] == n)
             return 18;
+    if (factor_count != n)
+        return 5;
     for (unsigned i = 0; i < n; i++) {
         if (x[i] >> degree)
             return 6;
@@ -79,17 +92,20 @@ static unsigned open_refusal(unsigned degree, unsigned n, const unsigned *x, uns
             if (x[j] == x[i])
                 return 6;
     }
+    for (unsigned i = 0; i < n; i++)
+        if (factors[i] == 0 || factors[i] >> degree)
+            return 23;
     return 0;
 }
 
 static unsigned open_desk(struct desk *d, unsigned degree, unsigned n, const unsigned *x, unsigned r, const unsigned *k)
 {
-    static const unsigned spare_x[] = {0, 1}, spare_k[] = {1};
+    static const unsigned spare_x[] = {0, 1}, spare_factors[] = {1, 1}, spare_k[] = {1};
     unsigned refused = open_refusal(degree, n, x, r, k);
     if (refused)
-        zero_desk(d, 2, 2, spare_x, 1, spare_k);
+        zero_desk(d, 2, 2, spare_x, spare_factors, 1, spare_k);
     else
-        zero_desk(d, degree, n, x, r, k);
+        zero_desk(d, degree, n, x, factors, r, k);
     return refused;
 }
 
@@ -125,6 +141,10 @@ static void frame(unsigned kind, unsigned number, unsigned n, const unsigned *x,
         f[5 + i] = (unsigned char)x[i];
     for (unsigned l = 0; l < r; l++)
         f[5 + POINTS + l] = (unsigned char)k[l];
+    if (kind == 0)
+        f[FACTOR_COUNT] = (unsigned char)factor_count;
+    for (unsigned i = 0; i < f[FACTOR_COUNT]; i++)
+        f[FACTORS + i] = (unsigned char)factors[i];
     fwrite(f, 1, sizeof f, to);
 }
 
@@ -136,13 +156,28 @@ static void line(unsigned refused)
         fprintf(to, "done %u\n", verdict(&now));
 }
 
-static void opens(unsigned degree, unsigned n, const unsigned *x, unsigned r, const unsigned *k)
+/* so many factors of one */
+static void ones(unsigned count)
+{
+    factor_count = count;
+    for (unsigned i = 0; i < count; i++)
+        factors[i] = 1;
+}
+
+/* an opening with the factors that are there */
+static void opens_with_factors(unsigned degree, unsigned n, const unsigned *x, unsigned r, const unsigned *k)
 {
     unsigned refused = open_desk(&now, degree, n, x, r, k);
     if (wants_input)
         frame(0, degree, n, x, r, k);
     else
         line(refused);
+}
+
+static void opens(unsigned degree, unsigned n, const unsigned *x, unsigned r, const unsigned *k)
+{
+    ones(n);
+    opens_with_factors(degree, n, x, r, k);
 }
 
 static void puts_column(unsigned column, unsigned count, const unsigned *s)
@@ -178,6 +213,7 @@ static void strike(void)
             mark[i][l] = 0;
             for (unsigned j = now.k[l]; j-- > 0;)
                 mark[i][l] = second_product(now.degree, mark[i][l], now.x[i]) ^ message[j];
+            mark[i][l] = second_product(now.degree, now.factor[i], mark[i][l]);
         }
     }
 }
@@ -228,7 +264,15 @@ static void refused_puts(void)
         puts_column(i, now.r, bad);
 }
 
-static void code(unsigned degree, unsigned n, unsigned r, const unsigned *k)
+/* factors that are not zero, the second not one where the field has another */
+static void any_factors(unsigned degree, unsigned n)
+{
+    factor_count = n;
+    for (unsigned i = 0; i < n; i++)
+        factors[i] = i == 1 ? 2 + any((1u << degree) - 2) : 1 + any((1u << degree) - 1);
+}
+
+static void code(unsigned degree, unsigned n, unsigned r, const unsigned *k, int with_factors)
 {
     unsigned size = 1u << degree, x[16], o[16];
     for (unsigned i = 0; i < n;) {
@@ -240,7 +284,11 @@ static void code(unsigned degree, unsigned n, unsigned r, const unsigned *k)
             i++;
     }
     for (unsigned which = 0; which < 3; which++) {
-        opens(degree, n, x, r, k);
+        if (with_factors)
+            any_factors(degree, n);
+        else
+            ones(n);
+        opens_with_factors(degree, n, x, r, k);
         strike();
         order(which, o);
         for (unsigned i = 0; i < n; i++) {
@@ -307,6 +355,72 @@ static void refused_openings(void)
     opens(4, 17, x, 4, k);
 }
 
+/* one opening of GF(16) with k 1 and three points; its factors are in a list of up to four */
+static void opens_three(const unsigned *x, unsigned count, unsigned a, unsigned b, unsigned c, unsigned d)
+{
+    static const unsigned k[] = {1};
+    unsigned list[] = {a, b, c, d};
+    factor_count = count;
+    memcpy(factors, list, sizeof list);
+    opens_with_factors(4, 3, x, 1, k);
+}
+
+/* a row of one value, struck with the factors a desk was opened with and then with other ones */
+static void other_factors(void)
+{
+    unsigned x[] = {3, 1, 0}, s;
+    opens_three(x, 3, 2, 3, 15, 0);
+    for (unsigned i = 0; i < 3; i++)
+        puts_column(i, 1, &factors[i]);
+    opens_three(x, 3, 2, 4, 15, 0);
+    for (unsigned i = 0; i < 3; i++) {
+        s = i == 1 ? 3 : factors[i];
+        puts_column(i, 1, &s);
+    }
+    s = 4;
+    puts_column(1, 1, &s);
+}
+
+static void refused_factors(void)
+{
+    static const unsigned x[] = {3, 1, 0}, twice[] = {3, 1, 3}, full[] = {3}, none[] = {0}, k[] = {1};
+    static const unsigned sixteen[] = {0, 1, 2, 3, 4, 5, 6, 7, 8, 9, 10, 11, 12, 13, 14, 15};
+    opens_three(x, 0, 1, 1, 1, 1); /* missing and spare */
+    opens_three(x, 2, 1, 1, 1, 1);
+    spare();
+    opens_three(x, 4, 1, 1, 1, 1);
+    opens_three(x, 4, 1, 1, 1, 0);
+    spare();
+    opens_three(x, 3, 0, 1, 1, 1); /* zero and outside the field */
+    opens_three(x, 3, 1, 1, 0, 1);
+    spare();
+    opens_three(x, 3, 1, 16, 1, 1);
+    opens_three(x, 3, 1, 1, 255, 1);
+    spare();
+    opens_three(x, 3, 15, 15, 15, 1);
+    opens_three(twice, 4, 1, 1, 1, 1); /* 5 before 6, 6 before 23, 5 before 23 */
+    opens_three(twice, 3, 1, 0, 1, 1);
+    opens_three(x, 2, 1, 0, 1, 1);
+    factor_count = 4; /* 18, 4, 3, 2 and 1 before 5 */
+    opens_with_factors(4, 3, x, 1, full);
+    opens_with_factors(4, 3, x, 1, none);
+    opens_with_factors(4, 0, x, 1, k);
+    opens_with_factors(4, 3, x, 0, k);
+    opens_with_factors(3, 3, x, 1, k);
+    ones(17); /* sixteen columns */
+    opens_with_factors(8, 16, sixteen, 1, k);
+    ones(15);
+    opens_with_factors(8, 16, sixteen, 1, k);
+    ones(16);
+    factors[15] = 0;
+    opens_with_factors(8, 16, sixteen, 1, k);
+    factors[15] = 255;
+    opens_with_factors(8, 16, sixteen, 1, k);
+    ones(MOST_FACTORS);
+    opens_with_factors(8, 16, sixteen, 1, k);
+    spare();
+}
+
 int main(int argc, char **argv)
 {
     if (argc != 3 || (strcmp(argv[1], "in") && strcmp(argv[1], "out"))) {
@@ -321,16 +435,21 @@ int main(int argc, char **argv)
     }
     static const unsigned one[] = {1}, two[] = {1, 2}, four[] = {4, 1, 2, 3}, long_k[] = {15, 3, 8, 14}, last[] = {2, 3},
                           three[] = {3, 1, 2, 3};
-    code(2, 4, 2, two);
-    code(2, 4, 4, three);
-    code(2, 2, 1, one);
-    code(4, 5, 2, two);
-    code(4, 9, 4, four);
-    code(4, 16, 4, long_k);
-    code(8, 4, 2, last);
-    code(8, 12, 4, four);
-    code(8, 16, 4, long_k);
-    code(8, 16, 1, one);
-    refused_openings();
+    for (int with_factors = 0; with_factors < 2; with_factors++) {
+        code(2, 4, 2, two, with_factors);
+        code(2, 4, 4, three, with_factors);
+        code(2, 2, 1, one, with_factors);
+        code(4, 5, 2, two, with_factors);
+        code(4, 9, 4, four, with_factors);
+        code(4, 16, 4, long_k, with_factors);
+        code(8, 4, 2, last, with_factors);
+        code(8, 12, 4, four, with_factors);
+        code(8, 16, 4, long_k, with_factors);
+        code(8, 16, 1, one, with_factors);
+        if (!with_factors)
+            refused_openings();
+    }
+    other_factors();
+    refused_factors();
     return fclose(to) ? 1 : 0;
 }

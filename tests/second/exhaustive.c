@@ -1,6 +1,7 @@
 /* Demand 3 seen to hold by a program that knows nothing of locators: all arrays over GF(4) with few columns and rows, all message
- * lengths, all sets of lost columns and all trial limits, against a search over sets of wrong columns. Then short lists of lost
- * columns, good and bad, against the checks. A code with a row as long as the mark is refused, whatever is lost.
+ * lengths, all sets of lost columns and all trial limits, against a search over sets of wrong columns, with factors of one; then
+ * smaller arrays with all lists of factors. Then short lists of lost columns and of factors, good and bad, against the checks. A code
+ * with a row as long as the mark is refused, whatever is lost.
  *
  *   exhaustive [MOST]    arrays of up to MOST symbols (default 8: all with two rows of four)
  */
@@ -29,7 +30,11 @@ static unsigned through(const uint8_t *xs, const uint8_t *ys, size_t count, unsi
     return sum;
 }
 
-/* The code array that agrees with y outside the columns of `set`, if there is one; there are enough columns outside to fix it. */
+/* The factors of the code that is tried. */
+static uint8_t factors[MOST_COLUMNS] = {1, 1, 1, 1};
+
+/* The code array that agrees with y outside the columns of `set`, if there is one; there are enough columns outside to fix it. Each of
+ * its symbols is a factor times a value. */
 static int agreeing(const uint8_t *ks, size_t r, const uint8_t *points, size_t n, const uint8_t *y, unsigned set, uint8_t *array)
 {
     for (size_t l = 0; l < r; l++) {
@@ -38,10 +43,10 @@ static int agreeing(const uint8_t *ks, size_t r, const uint8_t *points, size_t n
         for (size_t i = 0; i < n; i++)
             if (!(set >> i & 1)) {
                 xs[good] = points[i];
-                ys[good++] = y[l * n + i];
+                ys[good++] = (uint8_t)second_quotient(DEGREE, y[l * n + i], factors[i]);
             }
         for (size_t i = 0; i < n; i++)
-            array[l * n + i] = (uint8_t)through(xs, ys, ks[l], points[i]);
+            array[l * n + i] = (uint8_t)second_product(DEGREE, factors[i], through(xs, ys, ks[l], points[i]));
         for (size_t i = 0; i < n; i++)
             if (!(set >> i & 1) && array[l * n + i] != y[l * n + i])
                 return 0;
@@ -57,13 +62,14 @@ static unsigned size_of(unsigned set)
     return count;
 }
 
-/* What was tried: arrays with no lost columns and with some, and lists that end as corrected, 16, 17, 8 and 18. */
+/* What was tried: arrays with no lost columns and with some, with factors of one and with others; lists that end as corrected, 16, 17,
+ * 8 and 18; and calls with lists of factors that are done or corrected, 5, 6, 23 and 7. */
 static struct {
-    unsigned long cases[2], lists[5];
+    unsigned long cases[2][2], lists[5], factors[5];
 } tried;
 
 static size_t most_symbols = 8;
-static unsigned half;
+static unsigned half, list_of_factors; /* the number of the list of factors, and 0 for factors of one */
 
 /* The columns of a set as a list, in an order that depends on `turn`: each order of up to three comes about. */
 static size_t listed(unsigned set, unsigned long turn, uint8_t *list)
@@ -105,10 +111,11 @@ static int check(const uint8_t *ks, size_t r, const uint8_t *points, size_t n, u
     size_t gone = listed(lost, turn, list);
     memset(answer, 0xEE, sizeof answer);
     memset(flags, 0xEE, sizeof flags);
-    uint32_t e = lost ? gren_mark_decode_lost(DEGREE, ks, r, points, n, limit, list, gone, y, r * n, answer, r * n, flags, n, space,
-                                              sizeof space)
-                      : gren_mark_decode(DEGREE, ks, r, points, n, limit, y, r * n, answer, r * n, flags, n, space, sizeof space);
-    tried.cases[lost > 0]++;
+    uint32_t e = lost ? gren_mark_decode_lost(DEGREE, ks, r, points, n, factors, n, limit, list, gone, y, r * n, answer, r * n,
+                                              flags, n, space, sizeof space)
+                      : gren_mark_decode(DEGREE, ks, r, points, n, factors, n, limit, y, r * n, answer, r * n, flags, n, space,
+                                         sizeof space);
+    tried.cases[list_of_factors > 0][lost > 0]++;
     int corrected = gren_code(e) == GREN_CORRECTED;
     int ok = gren_code(e) != GREN_REFUSED;
     if (corrected) {
@@ -132,12 +139,13 @@ static int check(const uint8_t *ks, size_t r, const uint8_t *points, size_t n, u
     return ok;
 }
 
-/* Every other array of a code, and all trial limits. In the longest arrays the lost columns take few of the symbols that they could. */
-static int check_arrays(const uint8_t *ks, size_t r, const uint8_t *points, size_t n, unsigned lost)
+/* Every other array of a code, of `one_in` one, and all trial limits. In the longest arrays the lost columns take few of the symbols
+ * that they could. */
+static int check_arrays(const uint8_t *ks, size_t r, const uint8_t *points, size_t n, unsigned lost, unsigned one_in)
 {
     size_t left = n - size_of(lost), free_symbols = r * n <= 6 ? r * n : r * left;
     for (unsigned limit = 0; limit <= second_joint_limit(ks, r, left); limit++)
-        for (unsigned long word = half; word < 1ul << (2 * free_symbols); word += 2) {
+        for (unsigned long word = half + 2 * (list_of_factors % one_in); word < 1ul << (2 * free_symbols); word += 2 * one_in) {
             uint8_t y[8];
             unsigned long symbols = word, other = word * 2654435761u >> 7;
             for (size_t i = 0; i < r * n; i++) {
@@ -146,8 +154,8 @@ static int check_arrays(const uint8_t *ks, size_t r, const uint8_t *points, size
                 *from >>= 2;
             }
             if (!check(ks, r, points, n, lost, limit, word, y)) {
-                printf("exhaustive: n %zu, r %zu, k %u %u, lost %u, limit %u, array %lu FAILED\n", n, r, ks[0], ks[1], lost, limit,
-                       word);
+                printf("exhaustive: n %zu, r %zu, k %u %u, factors %u, lost %u, limit %u, array %lu FAILED\n", n, r, ks[0], ks[1],
+                       list_of_factors, lost, limit, word);
                 return 0;
             }
         }
@@ -177,8 +185,8 @@ static int check_list(const uint8_t *ks, size_t r, const uint8_t *points, size_t
         unsigned refused = expected ? expected : limit == most ? 8 : 0;
         memset(answer, 0xEE, sizeof answer);
         memset(flags, 0xEE, sizeof flags);
-        uint32_t e = gren_mark_decode_lost(DEGREE, ks, r, points, n, limit, list, count, y, r * n, answer, r * n, flags, n, space,
-                                           sizeof space);
+        uint32_t e = gren_mark_decode_lost(DEGREE, ks, r, points, n, factors, n, limit, list, count, y, r * n, answer, r * n, flags,
+                                           n, space, sizeof space);
         int ok = e == (refused ? refused : 256);
         for (size_t i = 0; i < r * n; i++)
             ok &= answer[i] == (refused ? 0xEE : 0);
@@ -209,15 +217,98 @@ static int check_lists(const uint8_t *ks, size_t r, const uint8_t *points, size_
     return 1;
 }
 
+/* A code without a full row, all sets of lost columns that leave enough. */
+static int check_losses(const uint8_t *ks, size_t r, const uint8_t *points, size_t n, unsigned one_in)
+{
+    for (unsigned lost = 0; lost < 1u << n; lost++) {
+        size_t left = n - size_of(lost);
+        if (left >= ks[0] && (r == 1 || left >= ks[1]) && !check_arrays(ks, r, points, n, lost, one_in))
+            return 0;
+    }
+    return 1;
+}
+
+/* The same with all lists of factors but that of ones: all arrays of up to four symbols in up to three columns, and of the others up to
+ * six symbols a part, another one for each list. */
+static int check_with_factors(const uint8_t *ks, size_t r, const uint8_t *points, size_t n)
+{
+    unsigned all = 1, one_in = r * n > 4 ? 13 : n > 3 ? 5 : 1;
+    int ok = 1;
+    for (size_t i = 0; i < n; i++)
+        all *= FIELD - 1;
+    for (list_of_factors = 1; ok && r * n <= 6 && list_of_factors < all; list_of_factors++) {
+        unsigned rest = list_of_factors;
+        for (size_t i = 0; i < n; i++, rest /= FIELD - 1)
+            factors[i] = (uint8_t)(1 + rest % (FIELD - 1));
+        ok = check_losses(ks, r, points, n, one_in);
+    }
+    list_of_factors = 0;
+    memset(factors, 1, sizeof factors);
+    return ok;
+}
+
 static int check_code(const uint8_t *ks, size_t r, const uint8_t *points, size_t n)
 {
     int full = ks[0] == n || (r > 1 && ks[1] == n);
-    for (unsigned lost = 0; !full && lost < 1u << n; lost++) {
-        size_t left = n - size_of(lost);
-        if (left >= ks[0] && (r == 1 || left >= ks[1]) && !check_arrays(ks, r, points, n, lost))
-            return 0;
-    }
+    if (!full && (!check_losses(ks, r, points, n, 1) || !check_with_factors(ks, r, points, n)))
+        return 0;
     return half || check_lists(ks, r, points, n);
+}
+
+/* One list of factors in all four calls, for a row of one value. Of the value 1 the factors themselves are struck. */
+static int check_factor_list(const uint8_t *points, size_t n, const uint8_t *list, size_t count, uint8_t symbol, unsigned refused)
+{
+    static const uint8_t k[] = {1}, lost[] = {0};
+    uint8_t out[4][8], flags[2][8], y[8] = {0}, lent[8];
+    memset(out, 0xEE, sizeof out);
+    memset(flags, 0xEE, sizeof flags);
+    memset(lent, 0xEE, sizeof lent);
+    if (!refused)
+        memcpy(y, list, n);
+    y[n - 1] ^= symbol ^ 1;
+    uint32_t coded = refused ? refused : 256;
+    int ok = gren_mark_encode(DEGREE, k, 1, points, n, list, count, &symbol, 1, out[0], n) == coded;
+    ok &= gren_mark_read(DEGREE, k, 1, points, n, list, count, y, n, out[1], 1) == coded;
+    ok &= gren_mark_decode(DEGREE, k, 1, points, n, list, count, 0, y, n, out[2], n, flags[0], n, space, sizeof space) == coded;
+    ok &= gren_mark_decode_lost(DEGREE, k, 1, points, n, list, count, 0, lost, 1, y, n, out[3], n, flags[1], n, space, sizeof space)
+          == coded;
+    tried.factors[refused == 5 ? 1 : refused == 6 ? 2 : refused == 23 ? 3 : refused == 7 ? 4 : 0] += 4;
+    for (size_t i = 0; i < 4; i++) {
+        size_t written = refused ? 0 : i == 1 ? 1 : n;
+        ok &= !memcmp(out[i], i == 1 ? k : list, written) && !memcmp(out[i] + written, lent, sizeof lent - written);
+    }
+    for (size_t i = 0; i < 2; i++)
+        for (size_t j = 0; j < sizeof flags[0]; j++)
+            ok &= flags[i][j] == (refused || j >= n ? 0xEE : i && j == 0 ? 2 : 0);
+    return ok;
+}
+
+/* All lists of up to n + 1 factors from 0 to 4 and 255; each with good points and symbols, with a point named twice, and with a symbol
+ * outside the field. */
+static int check_factor_lists(const uint8_t *points, size_t n)
+{
+    static const uint8_t numbers[] = {0, 1, 2, 3, 4, 255};
+    uint8_t twice[MOST_COLUMNS], list[MOST_COLUMNS + 1];
+    unsigned all = 1, sizes = sizeof numbers;
+    memcpy(twice, points, n);
+    twice[n - 1] = twice[0];
+    for (size_t count = 0; count <= n + 1; count++, all *= sizes)
+        for (unsigned which = 0; which < all; which++) {
+            unsigned rest = which, bad = 0;
+            for (size_t i = 0; i < count; i++, rest /= sizes) {
+                list[i] = numbers[rest % sizes];
+                bad |= list[i] < 1 || list[i] >= FIELD;
+            }
+            unsigned code = count != n ? 5 : 0, factor = bad ? 23 : 0;
+            if (!check_factor_list(points, n, list, count, 1, code ? code : factor)
+                || !check_factor_list(twice, n, list, count, 1, code ? code : 6)
+                || !check_factor_list(points, n, list, count, FIELD, code ? code : factor ? factor : 7)
+                || !check_factor_list(twice, n, list, count, FIELD, code ? code : 6)) {
+                printf("exhaustive: n %zu, list %u of %zu factors FAILED\n", n, which, count);
+                return 0;
+            }
+        }
+    return 1;
 }
 
 static int check_half(unsigned which)
@@ -236,7 +327,7 @@ static int check_half(unsigned which)
                     return 0;
             }
         }
-    return 1;
+    return half || (check_factor_lists(points, 2) && check_factor_lists(points, 3));
 }
 
 int main(int argc, char **argv)
@@ -244,9 +335,12 @@ int main(int argc, char **argv)
     most_symbols = argc > 1 ? strtoul(argv[1], NULL, 10) : most_symbols;
     if (!in_halves(check_half, (unsigned long *)&tried, sizeof tried / sizeof(unsigned long)))
         return 1;
-    printf("exhaustive: %lu decodings agree with the search over sets of columns, and %lu with lost columns\n", tried.cases[0],
-           tried.cases[1]);
+    for (int with_factors = 0; with_factors < 2; with_factors++)
+        printf("exhaustive: factors %s: %lu decodings agree with the search over sets of columns, and %lu with lost columns\n",
+               with_factors ? "of all kinds" : "of one", tried.cases[with_factors][0], tried.cases[with_factors][1]);
     printf("exhaustive: lists of lost columns: %lu corrected, refusals 16: %lu 17: %lu 8: %lu 18: %lu\n", tried.lists[0],
            tried.lists[1], tried.lists[2], tried.lists[3], tried.lists[4]);
+    printf("exhaustive: lists of factors: %lu done, refusals 5: %lu 6: %lu 23: %lu 7: %lu\n", tried.factors[0], tried.factors[1],
+           tried.factors[2], tried.factors[3], tried.factors[4]);
     return 0;
 }

@@ -6,9 +6,9 @@
 #include <stdio.h>
 #include <string.h>
 
-enum { FRAME = 512, LINE = 1200, SPACE_LESS = 49144, LENT_RESULT = 7, LENT_FLAGS = 9, LENT_SPACE = 1 };
-enum { LENGTHS = 14, POINTS = 21, SYMBOLS = 118, LOST_COUNT = 503, LOST = 504 };
-enum { MOST_LENGTHS = 7, MOST_POINTS = 97, MOST_SYMBOLS = 385, MOST_LOST = 8 };
+enum { FRAME = 610, LINE = 1200, SPACE_LESS = 49144, LENT_RESULT = 7, LENT_FLAGS = 9, LENT_SPACE = 1 };
+enum { LENGTHS = 14, POINTS = 21, SYMBOLS = 118, LOST_COUNT = 503, LOST = 504, FACTOR_COUNT = 512, FACTORS = 513 };
+enum { MOST_LENGTHS = 7, MOST_POINTS = 97, MOST_SYMBOLS = 385, MOST_LOST = 8, MOST_FACTORS = 97 };
 enum { MARK_LOST = 7, RING_LOST = 6 };
 
 static uint8_t frame[FRAME];
@@ -22,6 +22,13 @@ static void set_number(int at, size_t n)
 {
     frame[at] = (uint8_t)(n % 256);
     frame[at + 1] = (uint8_t)(n / 256);
+}
+
+/* So many factors of one. */
+static void set_ones(size_t count)
+{
+    frame[FACTOR_COUNT] = (uint8_t)count;
+    memset(frame + FACTORS, 1, count);
 }
 
 static char *hexadecimal(char *to, const uint8_t *symbols, size_t count)
@@ -52,21 +59,21 @@ static void answer(char *line)
     static uint8_t result[MOST_SYMBOLS], flags[MOST_POINTS], space[SPACE_LESS + 255];
     size_t ks = count(frame[6], MOST_LENGTHS), xs = count(frame[7], MOST_POINTS), s = count(number(8), MOST_SYMBOLS),
            a = count(number(10), MOST_SYMBOLS), f = count(frame[12], MOST_POINTS), w = SPACE_LESS + (size_t)frame[13],
-           g = count(frame[LOST_COUNT], MOST_LOST), zeros = 0;
-    const uint8_t *k = frame + LENGTHS, *x = frame + POINTS, *y = frame + SYMBOLS, *lost = frame + LOST;
+           g = count(frame[LOST_COUNT], MOST_LOST), c = count(frame[FACTOR_COUNT], MOST_FACTORS), zeros = 0;
+    const uint8_t *k = frame + LENGTHS, *x = frame + POINTS, *h = frame + FACTORS, *y = frame + SYMBOLS, *lost = frame + LOST;
     uint32_t r, first = number(1), limit = number(3), m = number(5);
     memset(result, LENT_RESULT, sizeof result);
     memset(flags, LENT_FLAGS, sizeof flags);
     memset(space, LENT_SPACE, sizeof space);
     switch (frame[0]) {
-    case 0: r = second_mark_encode(first, k, ks, x, xs, y, s, result, a); break;
-    case 1: r = second_mark_read(first, k, ks, x, xs, y, s, result, a); break;
-    case 2: r = second_mark_decode(first, k, ks, x, xs, limit, y, s, result, a, flags, f, space, w); break;
+    case 0: r = second_mark_encode(first, k, ks, x, xs, h, c, y, s, result, a); break;
+    case 1: r = second_mark_read(first, k, ks, x, xs, h, c, y, s, result, a); break;
+    case 2: r = second_mark_decode(first, k, ks, x, xs, h, c, limit, y, s, result, a, flags, f, space, w); break;
     case 3: r = second_ring_encode(first, m, y, s, result, a); break;
     case 4: r = second_ring_read(first, m, y, s, result, a); break;
     case 5: r = second_ring_decode(first, m, limit, y, s, result, a, flags, f, space, w); break;
     case RING_LOST: r = second_ring_decode_lost(first, m, limit, lost, g, y, s, result, a, flags, f, space, w); break;
-    default: r = second_mark_decode_lost(first, k, ks, x, xs, limit, lost, g, y, s, result, a, flags, f, space, w); break;
+    default: r = second_mark_decode_lost(first, k, ks, x, xs, h, c, limit, lost, g, y, s, result, a, flags, f, space, w); break;
     }
     for (size_t i = 0; i < w; i++)
         zeros += !space[i];

@@ -183,14 +183,29 @@ static int bad_points(uint32_t degree, const uint8_t *points, size_t columns)
     return 0;
 }
 
-/* Checks 1 to 7 of a mark, 18 behind 4, where `fit` says whether the buffers' lengths are right. */
-static unsigned mark_check(uint32_t degree, const uint8_t *lengths, size_t rows, const uint8_t *points, size_t columns, int fit,
-                           const uint8_t *symbols, size_t count)
+/* 'a factor outside the field or zero' */
+static int bad_factors(uint32_t degree, const uint8_t *factors, size_t columns)
+{
+    for (size_t i = 0; i < columns; i++)
+        if (factors[i] >> degree || factors[i] == 0)
+            return 1;
+    return 0;
+}
+
+/* Checks 1 to 7 of a mark, 18 behind 4 and 23 behind 6, where `fit` says whether the buffers' lengths are right. 'A missing or spare
+ * factor is 5'. */
+static unsigned mark_check(uint32_t degree, const uint8_t *lengths, size_t rows, const uint8_t *points, size_t columns,
+                           const uint8_t *factors, size_t factor_count, int fit, const uint8_t *symbols, size_t count)
 {
     unsigned k = code_check(degree, lengths, rows, columns);
     if (k)
         return k;
-    return !fit ? 5 : bad_points(degree, points, columns) ? 6 : outside(degree, symbols, count) ? 7 : 0;
+    if (!fit || factor_count != columns)
+        return 5;
+    return bad_points(degree, points, columns)     ? 6
+           : bad_factors(degree, factors, columns) ? 23
+           : outside(degree, symbols, count)       ? 7
+                                                   : 0;
 }
 
 /* Whether received, answer, flags and working space are as long as a decoding of so many symbols and columns takes them. */
@@ -202,34 +217,42 @@ static int decoding_fits(size_t symbols, size_t columns, size_t received_length,
 
 /* ---- marks */
 
+/* 'a row then holds factor times value' */
+static unsigned struck(unsigned degree, unsigned factor, const uint8_t *p, size_t count, unsigned x)
+{
+    return second_product(degree, factor, value(degree, p, count, x));
+}
+
 static void encode_rows(unsigned degree, const uint8_t *lengths, size_t rows, const uint8_t *points, size_t columns,
-                        const uint8_t *message, uint8_t *array)
+                        const uint8_t *factors, const uint8_t *message, uint8_t *array)
 {
     for (size_t l = 0; l < rows; l++) {
         for (size_t i = 0; i < columns; i++)
-            array[l * columns + i] = (uint8_t)value(degree, message, lengths[l], points[i]);
+            array[l * columns + i] = (uint8_t)struck(degree, factors[i], message, lengths[l], points[i]);
         message += lengths[l];
     }
 }
 
 uint32_t second_mark_encode(uint32_t degree, const uint8_t *lengths, size_t rows, const uint8_t *points, size_t columns,
-                            const uint8_t *message, size_t message_length, uint8_t *array, size_t array_length)
+                            const uint8_t *factors, size_t factor_count, const uint8_t *message, size_t message_length,
+                            uint8_t *array, size_t array_length)
 {
     int fit = message_length == total(lengths, rows) && array_length == rows * columns;
-    unsigned k = mark_check(degree, lengths, rows, points, columns, fit, message, message_length);
+    unsigned k = mark_check(degree, lengths, rows, points, columns, factors, factor_count, fit, message, message_length);
     if (k)
         return k;
-    encode_rows(degree, lengths, rows, points, columns, message, array);
+    encode_rows(degree, lengths, rows, points, columns, factors, message, array);
     return 256;
 }
 
-/* The polynomial of at most k coefficients through a row, if there is one. */
-static int row_polynomial(unsigned degree, unsigned k, const uint8_t *points, size_t columns, const uint8_t *row, uint8_t *p)
+/* The polynomial of at most k coefficients whose values times the factors are a row, if there is one. */
+static int row_polynomial(unsigned degree, unsigned k, const uint8_t *points, size_t columns, const uint8_t *factors,
+                          const uint8_t *row, uint8_t *p)
 {
-    /* unknowns: the coefficients, and a factor of the row that must not vanish */
+    /* unknowns: the coefficients, and a multiple of the row that must not vanish */
     uint8_t(*equations)[MOST] = calloc(columns, MOST);
     for (size_t i = 0; i < columns; i++) {
-        unsigned power = 1;
+        unsigned power = factors[i];
         equations[i][0] = row[i];
         for (unsigned j = 0; j < k; j++) {
             equations[i][1 + j] = (uint8_t)power;
@@ -252,16 +275,17 @@ static int row_polynomial(unsigned degree, unsigned k, const uint8_t *points, si
 }
 
 uint32_t second_mark_read(uint32_t degree, const uint8_t *lengths, size_t rows, const uint8_t *points, size_t columns,
-                          const uint8_t *array, size_t array_length, uint8_t *message, size_t message_length)
+                          const uint8_t *factors, size_t factor_count, const uint8_t *array, size_t array_length,
+                          uint8_t *message, size_t message_length)
 {
     int fit = message_length == total(lengths, rows) && array_length == rows * columns;
-    unsigned k = mark_check(degree, lengths, rows, points, columns, fit, array, array_length);
+    unsigned k = mark_check(degree, lengths, rows, points, columns, factors, factor_count, fit, array, array_length);
     if (k)
         return k;
     uint8_t found[MOST] = {0};
     size_t from = 0;
     for (size_t l = 0; l < rows; l++) {
-        if (!row_polynomial(degree, lengths[l], points, columns, array + l * columns, found + from))
+        if (!row_polynomial(degree, lengths[l], points, columns, factors, array + l * columns, found + from))
             return 9;
         from += lengths[l];
     }
@@ -297,9 +321,14 @@ static int divide(unsigned degree, const uint8_t *p, size_t p_count, const uint8
 }
 
 /* The ending of a decoding that is not refused; answer and flags are written on "corrected" alone. */
-static uint32_t endings(unsigned degree, const uint8_t *lengths, size_t rows, const uint8_t *points, size_t columns, uint32_t limit,
-                        const uint8_t *received, uint8_t *answer, uint8_t *flags)
+static uint32_t endings(unsigned degree, const uint8_t *lengths, size_t rows, const uint8_t *points, size_t columns,
+                        const uint8_t *factors, uint32_t limit, const uint8_t *received, uint8_t *answer, uint8_t *flags)
 {
+    /* 'In the locators … y is the symbol divided by its column's factor' */
+    uint8_t y[384];
+    for (size_t l = 0; l < rows; l++)
+        for (size_t i = 0; i < columns; i++)
+            y[l * columns + i] = (uint8_t)second_quotient(degree, received[l * columns + i], factors[i]);
     for (uint32_t t = 0; t <= limit; t++) {
         size_t unknowns = t + 1, base[4];
         for (size_t l = 0; l < rows; l++) {
@@ -313,7 +342,7 @@ static uint32_t endings(unsigned degree, const uint8_t *lengths, size_t rows, co
                 unsigned power = 1;
                 for (size_t j = 0; j < lengths[l] + t; j++) {
                     if (j <= t)
-                        row[j] = (uint8_t)second_product(degree, received[l * columns + i], power);
+                        row[j] = (uint8_t)second_product(degree, y[l * columns + i], power);
                     row[base[l] + j] = (uint8_t)power;
                     power = second_product(degree, power, points[i]);
                 }
@@ -357,9 +386,9 @@ static uint32_t endings(unsigned degree, const uint8_t *lengths, size_t rows, co
             if (!divide(degree, s.basis[one] + base[l], lengths[l] + t, s.basis[one], t + 1, quotient, &count)
                 || count > lengths[l])
                 ending = 256 * 4 + t;
-            else
+            else /* 'the answer's rows are the quotients' values times the factors' */
                 for (size_t i = 0; i < columns; i++)
-                    rebuilt[l * columns + i] = (uint8_t)value(degree, quotient, lengths[l], points[i]);
+                    rebuilt[l * columns + i] = (uint8_t)struck(degree, factors[i], quotient, lengths[l], points[i]);
         }
         free(s.basis);
         if (ending != 256)
@@ -377,17 +406,18 @@ static uint32_t endings(unsigned degree, const uint8_t *lengths, size_t rows, co
 }
 
 uint32_t second_mark_decode(uint32_t degree, const uint8_t *lengths, size_t rows, const uint8_t *points, size_t columns,
-                            uint32_t limit, const uint8_t *received, size_t received_length, uint8_t *answer,
-                            size_t answer_length, uint8_t *flags, size_t flags_length, uint8_t *space, size_t space_length)
+                            const uint8_t *factors, size_t factor_count, uint32_t limit, const uint8_t *received,
+                            size_t received_length, uint8_t *answer, size_t answer_length, uint8_t *flags, size_t flags_length,
+                            uint8_t *space, size_t space_length)
 {
     int fit = decoding_fits(rows * columns, columns, received_length, answer_length, flags_length, space_length);
-    unsigned k = mark_check(degree, lengths, rows, points, columns, fit, received, received_length);
+    unsigned k = mark_check(degree, lengths, rows, points, columns, factors, factor_count, fit, received, received_length);
     if (k)
         return k;
     if (limit > second_joint_limit(lengths, rows, columns))
         return 8;
     memset(space, 0, SECOND_SPACE);
-    return endings(degree, lengths, rows, points, columns, limit, received, answer, flags);
+    return endings(degree, lengths, rows, points, columns, factors, limit, received, answer, flags);
 }
 
 /* ---- lost columns */
@@ -405,26 +435,30 @@ static unsigned lost_check(const uint8_t *lengths, size_t rows, size_t columns, 
     return columns - lost_count < largest(lengths, rows) ? 17 : 0;
 }
 
-/* The ending of the array made of the remaining columns; on "corrected" all columns are the values of the rows found there. */
+/* The ending of the array made of the remaining columns; on "corrected" all columns are the values of the rows found there, times the
+ * factors. */
 static uint32_t endings_lost(unsigned degree, const uint8_t *lengths, size_t rows, const uint8_t *points, size_t columns,
-                             uint32_t limit, const uint8_t *which, const uint8_t *received, uint8_t *answer, uint8_t *flags)
+                             const uint8_t *factors, uint32_t limit, const uint8_t *which, const uint8_t *received, uint8_t *answer,
+                             uint8_t *flags)
 {
-    uint8_t xs[96] = {0}, ys[384] = {0}, found[384] = {0}, wrong[96] = {0}, p[MOST];
+    uint8_t xs[96] = {0}, fs[96] = {0}, ys[384] = {0}, found[384] = {0}, wrong[96] = {0}, p[MOST];
     size_t remaining = 0, at = 0;
     for (size_t i = 0; i < columns; i++)
-        if (!which[i])
+        if (!which[i]) {
+            fs[remaining] = factors[i];
             xs[remaining++] = points[i];
+        }
     for (size_t l = 0; l < rows; l++)
         for (size_t i = 0; i < columns; i++)
             if (!which[i])
                 ys[at++] = received[l * columns + i];
-    uint32_t ending = endings(degree, lengths, rows, xs, remaining, limit, ys, found, wrong);
+    uint32_t ending = endings(degree, lengths, rows, xs, remaining, fs, limit, ys, found, wrong);
     if (ending / 256 != 1)
         return ending;
     for (size_t l = 0; l < rows; l++) {
-        row_polynomial(degree, lengths[l], xs, remaining, found + l * remaining, p);
+        row_polynomial(degree, lengths[l], xs, remaining, fs, found + l * remaining, p);
         for (size_t i = 0; i < columns; i++)
-            answer[l * columns + i] = (uint8_t)value(degree, p, lengths[l], points[i]);
+            answer[l * columns + i] = (uint8_t)struck(degree, factors[i], p, lengths[l], points[i]);
     }
     at = 0;
     for (size_t i = 0; i < columns; i++)
@@ -433,13 +467,13 @@ static uint32_t endings_lost(unsigned degree, const uint8_t *lengths, size_t row
 }
 
 uint32_t second_mark_decode_lost(uint32_t degree, const uint8_t *lengths, size_t rows, const uint8_t *points, size_t columns,
-                                 uint32_t limit, const uint8_t *lost, size_t lost_count, const uint8_t *received,
-                                 size_t received_length, uint8_t *answer, size_t answer_length, uint8_t *flags,
-                                 size_t flags_length, uint8_t *space, size_t space_length)
+                                 const uint8_t *factors, size_t factor_count, uint32_t limit, const uint8_t *lost,
+                                 size_t lost_count, const uint8_t *received, size_t received_length, uint8_t *answer,
+                                 size_t answer_length, uint8_t *flags, size_t flags_length, uint8_t *space, size_t space_length)
 {
     uint8_t which[96];
     int fit = decoding_fits(rows * columns, columns, received_length, answer_length, flags_length, space_length);
-    unsigned k = mark_check(degree, lengths, rows, points, columns, fit, received, received_length);
+    unsigned k = mark_check(degree, lengths, rows, points, columns, factors, factor_count, fit, received, received_length);
     if (k)
         return k;
     k = lost_check(lengths, rows, columns, lost, lost_count, which);
@@ -448,10 +482,13 @@ uint32_t second_mark_decode_lost(uint32_t degree, const uint8_t *lengths, size_t
     if (limit > second_joint_limit(lengths, rows, columns - lost_count))
         return 8;
     memset(space, 0, SECOND_SPACE);
-    return endings_lost(degree, lengths, rows, points, columns, limit, which, received, answer, flags);
+    return endings_lost(degree, lengths, rows, points, columns, factors, limit, which, received, answer, flags);
 }
 
 /* ---- rings */
+
+/* 'Rings keep factors of one' */
+static const uint8_t ones[16] = {1, 1, 1, 1, 1, 1, 1, 1, 1, 1, 1, 1, 1, 1, 1, 1};
 
 static unsigned raised(unsigned degree, unsigned a, unsigned n)
 {
@@ -536,7 +573,7 @@ static void ring_array(unsigned q, const uint8_t *ring, uint8_t *points, uint8_t
     ring_points(q, xs, ys);
     for (unsigned x = 0; x < q * q; x++) {
         points[x] = (uint8_t)x;
-        row_polynomial(q, q, ys + x * q, q, ring + x * q, p);
+        row_polynomial(q, q, ys + x * q, q, ones, ring + x * q, p);
         for (unsigned j = 0; j < q; j++)
             array[j * q * q + x] = p[j];
     }
@@ -561,7 +598,7 @@ uint32_t second_ring_read(uint32_t q, uint32_t m, const uint8_t *word, size_t wo
     if (k)
         return k;
     ring_array(q, word, points, array);
-    uint32_t read = second_mark_read(q, lengths, q, points, q * q, array, q * q * q, found, message_length);
+    uint32_t read = second_mark_read(q, lengths, q, points, q * q, ones, q * q, array, q * q * q, found, message_length);
     if (read != 256)
         return read;
     memcpy(message, found, message_length);
@@ -581,7 +618,7 @@ uint32_t second_ring_decode(uint32_t q, uint32_t m, uint32_t limit, const uint8_
         return 8;
     memset(space, 0, SECOND_SPACE);
     ring_array(q, received, points, array);
-    uint32_t ending = endings(q, lengths, q, points, q * q, limit, array, rebuilt, flags);
+    uint32_t ending = endings(q, lengths, q, points, q * q, ones, limit, array, rebuilt, flags);
     if (ending / 256 == 1)
         array_ring(q, rebuilt, answer);
     return ending;
@@ -603,7 +640,7 @@ uint32_t second_ring_decode_lost(uint32_t q, uint32_t m, uint32_t limit, const u
         return 8;
     memset(space, 0, SECOND_SPACE);
     ring_array(q, received, points, array);
-    uint32_t ending = endings_lost(q, lengths, q, points, q * q, limit, which, array, rebuilt, flags);
+    uint32_t ending = endings_lost(q, lengths, q, points, q * q, ones, limit, which, array, rebuilt, flags);
     if (ending / 256 == 1)
         array_ring(q, rebuilt, answer);
     return ending;

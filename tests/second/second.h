@@ -14,14 +14,17 @@ unsigned second_inverse(unsigned degree, unsigned a);
 unsigned second_quotient(unsigned degree, unsigned a, unsigned b);
 
 /* The same parameters in the same order as the calls of grenhyrna.h, each answering the same number. Buffers are changed just as
- * 01 says, and with lost columns 02 (2026-03). */
+ * 01 says, and with lost columns and factors 02 (2026-03, 2026-11). */
 uint32_t second_mark_encode(uint32_t degree, const uint8_t *lengths, size_t rows, const uint8_t *points, size_t columns,
-                            const uint8_t *message, size_t message_length, uint8_t *array, size_t array_length);
+                            const uint8_t *factors, size_t factor_count, const uint8_t *message, size_t message_length,
+                            uint8_t *array, size_t array_length);
 uint32_t second_mark_read(uint32_t degree, const uint8_t *lengths, size_t rows, const uint8_t *points, size_t columns,
-                          const uint8_t *array, size_t array_length, uint8_t *message, size_t message_length);
+                          const uint8_t *factors, size_t factor_count, const uint8_t *array, size_t array_length,
+                          uint8_t *message, size_t message_length);
 uint32_t second_mark_decode(uint32_t degree, const uint8_t *lengths, size_t rows, const uint8_t *points, size_t columns,
-                            uint32_t limit, const uint8_t *received, size_t received_length, uint8_t *answer,
-                            size_t answer_length, uint8_t *flags, size_t flags_length, uint8_t *space, size_t space_length);
+                            const uint8_t *factors, size_t factor_count, uint32_t limit, const uint8_t *received,
+                            size_t received_length, uint8_t *answer, size_t answer_length, uint8_t *flags, size_t flags_length,
+                            uint8_t *space, size_t space_length);
 uint32_t second_ring_encode(uint32_t q, uint32_t m, const uint8_t *message, size_t message_length, uint8_t *word,
                             size_t word_length);
 uint32_t second_ring_read(uint32_t q, uint32_t m, const uint8_t *word, size_t word_length, uint8_t *message,
@@ -32,9 +35,9 @@ uint32_t second_ring_decode(uint32_t q, uint32_t m, uint32_t limit, const uint8_
 
 /* With lost columns. */
 uint32_t second_mark_decode_lost(uint32_t degree, const uint8_t *lengths, size_t rows, const uint8_t *points, size_t columns,
-                                 uint32_t limit, const uint8_t *lost, size_t lost_count, const uint8_t *received,
-                                 size_t received_length, uint8_t *answer, size_t answer_length, uint8_t *flags,
-                                 size_t flags_length, uint8_t *space, size_t space_length);
+                                 const uint8_t *factors, size_t factor_count, uint32_t limit, const uint8_t *lost,
+                                 size_t lost_count, const uint8_t *received, size_t received_length, uint8_t *answer,
+                                 size_t answer_length, uint8_t *flags, size_t flags_length, uint8_t *space, size_t space_length);
 uint32_t second_ring_decode_lost(uint32_t q, uint32_t m, uint32_t limit, const uint8_t *lost, size_t lost_count,
                                  const uint8_t *received, size_t received_length, uint8_t *answer, size_t answer_length,
                                  uint8_t *flags, size_t flags_length, uint8_t *space, size_t space_length);

@@ -1,14 +1,18 @@
 // The checks of the calls on interleaved arrays, in order.
 ghost use mathlib.Core.Path.{_≡_};
-ghost use mathlib.Core.Bool.{false};
+ghost use mathlib.Core.Bool.{true, false};
+ghost use mathlib.Core.Logic.{_↔_};
 ghost use mathlib.Core.List.{List, [], _∷_, _++_};
 ghost use Prim.Native.Nat.{ℕ, _*_, _≤_};
 ghost use lib.ListN.{length};
-ghost use Rattle.refusal.specs.Refusal.{_when_, badPoints, first, someOutside, someOutsideField};
+ghost use Rattle.refusal.specs.Refusal.{_when_, badDegree, badPoints, first, someOutside, someOutsideField};
+ghost use Rattle.poly.specs.Poly.{All};
 ghost use Rattle.codes.specs.Code.{codeOf, jointLimit, largest, total};
-ghost use Rattle.codes.specs.Checks.{arrayChecks, bufferChecks, codeChecks, decodeChecks, shapeChecks};
+ghost use Rattle.codes.specs.Factors.{descriptionOf};
+ghost use Rattle.codes.specs.Checks.{arrayChecks, badFactors, bufferChecks, codeChecks, shapeChecks};
 ghost use Rattle.codes.specs.Checks.{encodeChecks, lostChecks, readChecks, remainingChecks};
 ghost use Rattle.array_checks.specs.Working.{Sizes};
+use field::tables;
 
 // For the crates above: the bytes of the working space that a decoding takes.
 pub const SPACE: usize = 49152;
@@ -58,13 +62,14 @@ fn cells(lengths: &[u8], points: &[u8]) -> usize
     lengths.len() * points.len()
 }
 
-// The joint limit, of whatever degree the code is.
-fn joint_limit(lengths: &[u8], points: &[u8]) -> usize
+// The joint limit, of whatever degree the code is, where the largest length is known.
+fn joint_limit(lengths: &[u8], points: &[u8], most: usize) -> usize
     requires { ⌜ Sizes (now lengths) (now points) ⌝ }
+    requires { ⌜ most ≡ largest (now lengths) ⌝ }
     ensures { λ r. ⌜ ((d : ℕ) → r ≡ jointLimit (codeOf d (now (points .entry)) (now (lengths .entry)))) ⌝ }
 {
     let spare = (cells(lengths, points) - total(lengths)) / (lengths.len() + 1);
-    let short = points.len() - largest(lengths);
+    let short = points.len() - most;
     if spare < short { spare } else { short }
 }
 
@@ -92,15 +97,52 @@ pub fn code_refusal(most: usize, degree: u32, lengths: &[u8], points: &[u8]) -> 
     0
 }
 
-// For the crates above: 6 where check 6 applies, 0 where it does not.
-pub fn points_refusal(degree: u32, points: &[u8]) -> u8
-    ensures { λ r. ⌜ r ≡ first ((6 when badPoints degree (now (points .entry))) ∷ []) ⌝ }
+// For the crates above: whether all factors are one. All of them are looked at, so that the loop vectorises.
+pub fn all_ones(factors: &[u8]) -> bool
+    ensures { λ r. ⌜ (r ≡ true) ↔ All (λ (f : ℕ). f ≡ 1) (now (factors .entry)) ⌝ }
+{
+    let mut bits: u8 = 0;
+    let mut i = 0;
+    while i < factors.len() {
+        bits |= factors[i] ^ 1;
+        i += 1;
+    }
+    bits == 0
+}
+
+// Number 23 applies, a factor is outside the field or zero. Where all are known to be one, none is looked at.
+fn bad_factors(degree: u32, factors: &[u8], ones: bool) -> bool
+    requires { ⌜ badDegree degree ≡ false ⌝ }
+    requires { ⌜ (ones ≡ true → All (λ (f : ℕ). f ≡ 1) (now factors)) ⌝ }
+    ensures { λ r. ⌜ r ≡ badFactors degree (now (factors .entry)) ⌝ }
+{
+    if ones {
+        return false;
+    }
+    refusal::some_outside(1, tables::size(degree) - 1, factors)
+}
+
+// The first of the checks 6 and 23 that applies, 0 where none does.
+fn known_refusal(degree: u32, points: &[u8], factors: &[u8], ones: bool) -> u8
+    requires { ⌜ badDegree degree ≡ false ⌝ }
+    requires { ⌜ (ones ≡ true → All (λ (f : ℕ). f ≡ 1) (now factors)) ⌝ }
+    ensures { λ r. ⌜ r ≡ first ((6 when badPoints degree (now (points .entry))) ∷ (23 when badFactors degree (now (factors .entry))) ∷ []) ⌝ }
 {
     if refusal::bad_points(degree, points) {
-        6
-    } else {
-        0
+        return 6;
     }
+    if bad_factors(degree, factors, ones) {
+        return 23;
+    }
+    0
+}
+
+// For the crates above: the first of the checks 6 and 23 that applies, 0 where none does.
+pub fn columns_refusal(degree: u32, points: &[u8], factors: &[u8]) -> u8
+    requires { ⌜ badDegree degree ≡ false ⌝ }
+    ensures { λ r. ⌜ r ≡ first ((6 when badPoints degree (now (points .entry))) ∷ (23 when badFactors degree (now (factors .entry))) ∷ []) ⌝ }
+{
+    known_refusal(degree, points, factors, all_ones(factors))
 }
 
 // For the crates above: 7 where check 7 applies, 0 where it does not.
@@ -114,50 +156,90 @@ pub fn symbols_refusal(degree: u32, symbols: &[u8]) -> u8
     }
 }
 
+// The first of the checks 6, 23 and 7 that applies, 0 where none does.
+fn contents_refusal(degree: u32, points: &[u8], factors: &[u8], ones: bool, symbols: &[u8]) -> u8
+    requires { ⌜ badDegree degree ≡ false ⌝ }
+    requires { ⌜ (ones ≡ true → All (λ (f : ℕ). f ≡ 1) (now factors)) ⌝ }
+    ensures { λ r. ⌜ r ≡ first ((6 when badPoints degree (now (points .entry))) ∷ (23 when badFactors degree (now (factors .entry)))
+        ∷ (7 when someOutsideField degree (now (symbols .entry))) ∷ []) ⌝ }
+{
+    let of_columns = known_refusal(degree, points, factors, ones);
+    let of_symbols = symbols_refusal(degree, symbols);
+    if of_columns != 0 {
+        return of_columns;
+    }
+    of_symbols
+}
+
 // The first of the checks 1 to 7 that applies to a message and an array of these lengths, of which the symbols are the
 // input; 0 where none does.
 fn buffers_refusal(
     degree: u32,
     lengths: &[u8],
     points: &[u8],
+    factors: &[u8],
     message: usize,
     array: usize,
     symbols: &[u8],
 ) -> u8
     ensures { λ r. ⌜ ((m a : List ℕ) → length m ≡ message → length a ≡ array
         → r ≡ first (codeChecks (codeOf degree (now (points .entry)) (now (lengths .entry)))
-        ++ bufferChecks (codeOf degree (now (points .entry)) (now (lengths .entry))) m a (now (symbols .entry)))) ⌝ }
+        ++ bufferChecks (descriptionOf degree (now (points .entry)) (now (factors .entry)) (now (lengths .entry))) m a
+        (now (symbols .entry)))) ⌝ }
 {
     let k = code_refusal(96, degree, lengths, points);
     if k != 0 {
         return k;
     }
-    if (message != total(lengths)) | (array != cells(lengths, points)) {
+    if (message != total(lengths))
+        | (array != cells(lengths, points))
+        | (factors.len() != points.len())
+    {
         return 5;
     }
-    let k = points_refusal(degree, points);
-    if k != 0 {
-        return k;
-    }
-    symbols_refusal(degree, symbols)
+    contents_refusal(degree, points, factors, all_ones(factors), symbols)
 }
 
 // For the crates above: the first check of encoding that applies, 0 where none does. Of the array's buffer the checks read
 // the length alone, its room.
-pub fn encode_refusal(degree: u32, lengths: &[u8], points: &[u8], message: &[u8], room: usize) -> u8
+pub fn encode_refusal(
+    degree: u32,
+    lengths: &[u8],
+    points: &[u8],
+    factors: &[u8],
+    message: &[u8],
+    room: usize,
+) -> u8
     ensures { λ r. ⌜ ((a : List ℕ) → length a ≡ room
-        → r ≡ first (encodeChecks (codeOf degree (now (points .entry)) (now (lengths .entry))) (now (message .entry)) a)) ⌝ }
+        → r ≡ first (encodeChecks (descriptionOf degree (now (points .entry)) (now (factors .entry)) (now (lengths .entry)))
+        (now (message .entry)) a)) ⌝ }
 {
-    buffers_refusal(degree, lengths, points, message.len(), room, message)
+    buffers_refusal(
+        degree,
+        lengths,
+        points,
+        factors,
+        message.len(),
+        room,
+        message,
+    )
 }
 
 // For the crates above: the first of the checks 1 to 7 of reading that applies, 0 where none does. Of the message's buffer
 // the checks read the length alone, its room.
-pub fn read_refusal(degree: u32, lengths: &[u8], points: &[u8], array: &[u8], room: usize) -> u8
+pub fn read_refusal(
+    degree: u32,
+    lengths: &[u8],
+    points: &[u8],
+    factors: &[u8],
+    array: &[u8],
+    room: usize,
+) -> u8
     ensures { λ r. ⌜ ((m : List ℕ) → length m ≡ room
-        → r ≡ first (readChecks (codeOf degree (now (points .entry)) (now (lengths .entry))) (now (array .entry)) m)) ⌝ }
+        → r ≡ first (readChecks (descriptionOf degree (now (points .entry)) (now (factors .entry)) (now (lengths .entry)))
+        (now (array .entry)) m)) ⌝ }
 {
-    buffers_refusal(degree, lengths, points, room, array.len(), array)
+    buffers_refusal(degree, lengths, points, factors, room, array.len(), array)
 }
 
 // The first of the checks 1 to 7 of decoding that applies, 0 where none does. Of the buffers for the answer, the flags and the
@@ -166,53 +248,33 @@ fn array_refusal(
     degree: u32,
     lengths: &[u8],
     points: &[u8],
+    factors: &[u8],
+    ones: bool,
     received: &[u8],
     answer: usize,
     flags: usize,
     space: usize,
 ) -> u8
+    requires { ⌜ (ones ≡ true → All (λ (f : ℕ). f ≡ 1) (now factors)) ⌝ }
     ensures { λ r. ⌜ ((a f w : List ℕ) → length a ≡ answer → length f ≡ flags → length w ≡ space
-        → r ≡ first (arrayChecks (codeOf degree (now (points .entry)) (now (lengths .entry))) (now (received .entry)) a f w)) ⌝ }
+        → r ≡ first (arrayChecks (descriptionOf degree (now (points .entry)) (now (factors .entry)) (now (lengths .entry)))
+        (now (received .entry)) a f w)) ⌝ }
 {
     let k = code_refusal(96, degree, lengths, points);
     if k != 0 {
         return k;
     }
     let right = cells(lengths, points);
-    if (received.len() != right) | (answer != right) | (flags != points.len()) | (space < SPACE) {
+    let n = points.len();
+    if (received.len() != right)
+        | (answer != right)
+        | (flags != n)
+        | (space < SPACE)
+        | (factors.len() != n)
+    {
         return 5;
     }
-    let k = points_refusal(degree, points);
-    if k != 0 {
-        return k;
-    }
-    symbols_refusal(degree, received)
-}
-
-// For the crates above: the first check of decoding that applies, 0 where none does. Of the buffers for the answer, the
-// flags and the working space the checks read the lengths alone.
-pub fn decode_refusal(
-    degree: u32,
-    lengths: &[u8],
-    points: &[u8],
-    limit: u32,
-    received: &[u8],
-    answer: usize,
-    flags: usize,
-    space: usize,
-) -> u8
-    ensures { λ r. ⌜ ((a f w : List ℕ) → length a ≡ answer → length f ≡ flags → length w ≡ space
-        → r ≡ first (decodeChecks (codeOf degree (now (points .entry)) (now (lengths .entry)))
-        limit (now (received .entry)) a f w)) ⌝ }
-{
-    let k = array_refusal(degree, lengths, points, received, answer, flags, space);
-    if k != 0 {
-        return k;
-    }
-    if joint_limit(lengths, points) < limit as usize {
-        return 8;
-    }
-    0
+    contents_refusal(degree, points, factors, ones, received)
 }
 
 // For the crates above: the first of the checks 16, 17 and 8 that applies to lost columns of a code, of whatever degree; 0
@@ -228,21 +290,24 @@ pub fn remaining_refusal(lengths: &[u8], points: &[u8], limit: u32, lost: &[u8])
         return 16;
     }
     let left = points.len() - lost.len();
-    if left < largest(lengths) {
+    let most = largest(lengths);
+    if left < most {
         return 17;
     }
-    if joint_limit(lengths, &points[..left]) < limit as usize {
+    if joint_limit(lengths, &points[..left], most) < limit as usize {
         return 8;
     }
     0
 }
 
 // For the crates above: the first check of decoding with lost columns that applies, 0 where none does. Of the buffers for the
-// answer, the flags and the working space the checks read the lengths alone.
+// answer, the flags and the working space the checks read the lengths alone; the caller knows whether all factors are one.
 pub fn lost_refusal(
     degree: u32,
     lengths: &[u8],
     points: &[u8],
+    factors: &[u8],
+    ones: bool,
     limit: u32,
     lost: &[u8],
     received: &[u8],
@@ -250,11 +315,22 @@ pub fn lost_refusal(
     flags: usize,
     space: usize,
 ) -> u8
+    requires { ⌜ (ones ≡ true → All (λ (f : ℕ). f ≡ 1) (now factors)) ⌝ }
     ensures { λ r. ⌜ ((a f w : List ℕ) → length a ≡ answer → length f ≡ flags → length w ≡ space
-        → r ≡ first (lostChecks (codeOf degree (now (points .entry)) (now (lengths .entry)))
+        → r ≡ first (lostChecks (descriptionOf degree (now (points .entry)) (now (factors .entry)) (now (lengths .entry)))
         limit (now (lost .entry)) (now (received .entry)) a f w)) ⌝ }
 {
-    let k = array_refusal(degree, lengths, points, received, answer, flags, space);
+    let k = array_refusal(
+        degree,
+        lengths,
+        points,
+        factors,
+        ones,
+        received,
+        answer,
+        flags,
+        space,
+    );
     if k != 0 {
         return k;
     }

@@ -1,21 +1,30 @@
 -- Column factors: what multiplying and dividing by them keeps, and that they undo each other.
 --
---   Factors D             a factor for each column, each of them a symbol that is not zero
+--   Factor d f            f is a symbol that is not zero
+--   Factors D             a factor for each column
+--   factors-test          factors pass check 23 exactly when all of them are such symbols
+--   each-one, as-ones     of n ones each is one, and such factors are ones; ones-pass, they pass check 23
+--   length-row, getD-row, length-with    how long rows and arrays are, and what stands in a row
+--   made-row, made-rest   the first row of an array that is made, and the others
 --   is-multiplied, is-divided    an array stays one
 --   divided-multiplied, multiplied-divided    the one undoes the other
 --   flags-multiplied      two arrays differ in the columns in which their multiples do
---   plain c               the description with factors of one; multiplied-ones, divided-ones, they change nothing
+--   flags-struck          a received array and what is struck differ in the columns in which the quotient and the code array do
+--   multiplied-ones, divided-ones    factors of one change nothing; ones-factors, they are factors
 --   code-divided          an array is struck for a message exactly when its quotient is the code array of it; struck-array, it is an array
+--   struck-code           what is struck for a code array is struck for its message
+--   near-struck           the nearest code array to the quotient, multiplied, is the nearest struck array; near-exactly, far-struck
 -- Assumes nothing.
 use mathlib.Core.Path.{_≡_, refl, sym, ap, ap₂, _∙_, subst}
 use mathlib.Core.Logic.{_↔_}
-use mathlib.Core.Bool.{Bool, not, _||_}
+use mathlib.Core.Bool.{Bool, false, not, _||_}
 use mathlib.Core.List.{List, [], _∷_, _++_}
-use Prim.Native.Nat.{ℕ, zero, suc, _*_, _^_, _≤_, _<_}
+use Prim.Native.Nat.{ℕ, zero, suc, _-_, _*_, _^_, _≤_, _<_}
 use native.Mathlib.Nat.{suc-mul}
 use native.Mathlib.Omega.{arith}
 use native.Mathlib.Decide.{ℕ-discrete}
 use lib.Dec.{eqb}
+use lib.Pow.{pow-pos}
 use lib.ListN.{length, getD, take, drop, length-append, length-replicate, take-append-drop, List·getD-append}
 use lib.Seq.{take-at, drop-at, getD-take}
 use borrow.Author.Tests.{eq-eqb, ne-eqb}
@@ -24,26 +33,66 @@ use Rattle.field.specs.Arithmetic.{gf}
 use Rattle.field.proofs.Laws.{Field}
 use Rattle.poly.specs.Poly.{All}
 use Rattle.poly.proofs.Ring.{one-times, over-times, over-unique}
-use Rattle.codes.specs.Code.{Code, columns, rows, IsArray, differs, differsAt, flagsOf, CodeArray}
-use Rattle.codes.specs.Factors.{Description, withFactorsRow, withFactors, multiplied, divided, CodeArrayBy, ones}
-use Rattle.codes.proofs.Proper.{Proper}
+use Rattle.codes.specs.Code.{Code, columns, rows, IsMessage, IsArray, encoded, differs, differsAt, flagsOf, CodeArray}
+use Rattle.codes.specs.Factors.{Description, withFactorsRow, withFactors, multiplied, divided, CodeArrayBy, ones, plain}
+use Rattle.codes.specs.Checks.{badFactors}
+use Rattle.codes.specs.Near.{Nearest, Near, Far}
+use Rattle.codes.proofs.Proper.{Proper, lengths-test}
 use Rattle.codes.proofs.Flags.{flags-same}
-use Rattle.codes.proofs.Messages.{encoded-array}
-use Rattle.codes.proofs.Parts.{empty, all-take, all-drop, all-append, row-length, rest-length}
+use Rattle.codes.proofs.Messages.{encoded-array, code-array}
+use Rattle.codes.proofs.Parts.{empty, all-map, all-take, all-drop, all-append, row-length, rest-length}
+
+abbrev pub Factor : ℕ → ℕ → Type 0
+Factor d f = IsSymbol d f × (f ≡ 0 → ⊥)
 
 pub record Factors (D : Description) : Type 0 where
   pub count : length (D .factors) ≡ columns (D .code)
-  pub symbols : All (λ (f : ℕ). IsSymbol (D .code .degree) f × (f ≡ 0 → ⊥)) (D .factors)
+  pub symbols : All (Factor (D .code .degree)) (D .factors)
+
+pub factors-test : (d : ℕ) (fs : List ℕ) → (badFactors d fs ≡ false) ↔ All (Factor d) fs
+factors-test d fs =
+    let some : 0 < 2 ^ d = pow-pos d in (
+      λ e. all-map _ (Factor d) fs (λ f h. (omega (arith, h), λ z. omega (arith, h))) (lengths-test 1 (2 ^ d - 1) fs .0 e),
+      λ h. lengths-test 1 (2 ^ d - 1) fs .1 (all-map (Factor d) _ fs (λ f q. (some-factor f (q .1), omega (arith, q .0))) h),
+    )
+  where
+    some-factor : (f : ℕ) → (f ≡ 0 → ⊥) → 1 ≤ f
+    some-factor zero z = absurd (z refl)
+    some-factor (suc f) z = omega arith
+
+-- factors of which each is one
+
+pub as-ones : (fs : List ℕ) → All (λ (f : ℕ). f ≡ 1) fs → fs ≡ ones (length fs)
+as-ones [] h = refl
+as-ones (f ∷ fs) h = ap₂ _∷_ (h .0) (as-ones fs (h .1))
+
+pub each-one : (n : ℕ) → All (λ (f : ℕ). f ≡ 1) (ones n)
+each-one zero = tt
+each-one (suc n) = (refl, each-one n)
+
+each-factor : (d : ℕ) → Field (gf d) → (fs : List ℕ) → All (λ (f : ℕ). f ≡ 1) fs → All (Factor d) fs
+each-factor d 𝓕 fs h = all-map (λ (f : ℕ). f ≡ 1) (Factor d) fs (λ f e. rw e (𝓕 .one-in, 𝓕 .one-zero)) h
+
+pub ones-pass : (d : ℕ) → Field (gf d) → (fs : List ℕ) → All (λ (f : ℕ). f ≡ 1) fs → badFactors d fs ≡ false
+ones-pass d 𝓕 fs h = factors-test d fs .1 (each-factor d 𝓕 fs h)
 
 -- of a row
 module _ (f : ℕ → ℕ → ℕ) where
-  length-row : (fs a : List ℕ) → length a ≡ length fs → length (withFactorsRow f fs a) ≡ length fs
+  pub length-row : (fs a : List ℕ) → length a ≡ length fs → length (withFactorsRow f fs a) ≡ length fs
   unfolding withFactorsRow
   length-row [] a e = refl
   length-row (c ∷ cs) [] e = absurd (omega arith)
   length-row (c ∷ cs) (s ∷ a) e = ap suc (length-row cs a (omega arith))
 
-  length-with : (fs : List ℕ) (r : ℕ) (a : List ℕ) → length a ≡ r * length fs → length (withFactors f fs r a) ≡ r * length fs
+  pub getD-row : (fs a : List ℕ) → length a ≡ length fs → (k : ℕ) → k < length fs
+      → getD (withFactorsRow f fs a) k 0 ≡ f (getD fs k 0) (getD a k 0)
+  unfolding withFactorsRow
+  getD-row [] a e k h = absurd (omega arith)
+  getD-row (c ∷ cs) [] e k h = absurd (omega arith)
+  getD-row (c ∷ cs) (s ∷ a) e zero h = refl
+  getD-row (c ∷ cs) (s ∷ a) e (suc k) h = getD-row cs a (omega arith) k (omega arith)
+
+  pub length-with : (fs : List ℕ) (r : ℕ) (a : List ℕ) → length a ≡ r * length fs → length (withFactors f fs r a) ≡ r * length fs
   unfolding withFactors
   length-with fs zero a e = omega arith
   length-with fs (suc r) a e =
@@ -67,11 +116,11 @@ module _ (f : ℕ → ℕ → ℕ) (fs : List ℕ) (r : ℕ) (a : List ℕ) (siz
   unfolding row
   row-count = length-row f fs (take (length fs) a) (row-length r (length fs) a size)
 
-  made-row : take (length fs) (withFactors f fs (suc r) a) ≡ withFactorsRow f fs (take (length fs) a)
+  pub made-row : take (length fs) (withFactors f fs (suc r) a) ≡ withFactorsRow f fs (take (length fs) a)
   unfolding withFactors row others
   made-row = take-at row others (length fs) row-count
 
-  made-rest : drop (length fs) (withFactors f fs (suc r) a) ≡ withFactors f fs r (drop (length fs) a)
+  pub made-rest : drop (length fs) (withFactors f fs (suc r) a) ≡ withFactors f fs r (drop (length fs) a)
   unfolding withFactors row others
   made-rest = drop-at row others (length fs) row-count
 
@@ -151,9 +200,6 @@ module _ (F P : ℕ → Type 0) (f g : ℕ → ℕ → ℕ) (undo : (c s : ℕ) 
 
 -- ---- of a description
 
-abbrev pub Factor : ℕ → ℕ → Type 0
-Factor d f = IsSymbol d f × (f ≡ 0 → ⊥)
-
 module _ (D : Description) (y : Proper (D .code)) (h : Factors D) where
   open Description D using (code, factors)
   open Code code using (degree)
@@ -202,6 +248,10 @@ module _ (D : Description) (y : Proper (D .code)) (h : Factors D) where
     pub flags-multiplied : flagsOf code (multiplied D a) (multiplied D b) ≡ flagsOf code a b
     flags-multiplied = flags-same (differsAt code (multiplied D a) (multiplied D b)) (differsAt code a b) (columns code) columns-same
 
+  pub flags-struck : {y a : List ℕ} → IsArray code y → IsArray code a → flagsOf code y (multiplied D a) ≡ flagsOf code (divided D y) a
+  flags-struck {y} {a} i j =
+      ap (λ (z : List ℕ). flagsOf code z (multiplied D a)) (sym (multiplied-divided i)) ∙ flags-multiplied (is-divided i) j
+
   -- the array that is struck is the code array of the quotient
   pub code-divided : {a : List ℕ} → IsArray code a → CodeArrayBy D a ↔ CodeArray code (divided D a)
   code-divided {a} i = (
@@ -213,6 +263,36 @@ module _ (D : Description) (y : Proper (D .code)) (h : Factors D) where
   pub struck-array : {a : List ℕ} → CodeArrayBy D a → IsArray code a
   struck-array (m, is, e) = subst (IsArray code) e (is-multiplied (encoded-array y is))
 
+  pub struck-code : {a : List ℕ} → CodeArray code a → CodeArrayBy D (multiplied D a)
+  struck-code (m, is, e) = (m, is, ap (multiplied D) e)
+
+  -- what is near: `count` of a struck array is `among` of its quotient
+  module _ (count among : List ℕ → ℕ) (same : (a : List ℕ) → IsArray code a → count (multiplied D a) ≡ among a) where
+    counts-quotient : {a : List ℕ} → CodeArrayBy D a → count a ≡ among (divided D a)
+    counts-quotient {a} h =
+        let i = struck-array h in
+        ap count (sym (multiplied-divided i)) ∙ same (divided D a) (is-divided i)
+
+    pub near-struck : {τ w : ℕ} {a : List ℕ} → Nearest (CodeArray code) among τ w a → Nearest (CodeArrayBy D) count τ w (multiplied D a)
+    near-struck {a = a} h =
+        let i = code-array y (h .code) in
+        record {
+          code = struck-code (h .code);
+          wrong = same a i ∙ h .wrong;
+          within = h .within;
+          others = λ b j apart. rw (counts-quotient j) (h .others (divided D b) (code-divided (struck-array j) .0 j)
+              (λ e. apart (sym (multiplied-divided (struck-array j)) ∙ ap (multiplied D) e)));
+        }
+
+    pub near-exactly : {τ : ℕ} → Near (CodeArray code) among τ ↔ Near (CodeArrayBy D) count τ
+    near-exactly {τ} = (
+      λ (a, h, n). (multiplied D a, struck-code h, rw (same a (code-array y h)) n),
+      λ (a, h, n). (divided D a, code-divided (struck-array h) .0 h, subst (λ (m : ℕ). m ≤ τ) (counts-quotient h) n),
+    )
+
+    pub far-struck : {τ : ℕ} → Far (CodeArray code) among τ → Far (CodeArrayBy D) count τ
+    far-struck h a j = rw (counts-quotient j) (h (divided D a) (code-divided (struck-array j) .0 j))
+
 -- factors of one
 module _ (P : ℕ → Type 0) (f : ℕ → ℕ → ℕ) (one : (s : ℕ) → P s → f 1 s ≡ s) where
   ones-row : (n : ℕ) (a : List ℕ) → length a ≡ n → All P a → withFactorsRow f (ones n) a ≡ a
@@ -221,7 +301,7 @@ module _ (P : ℕ → Type 0) (f : ℕ → ℕ → ℕ) (one : (s : ℕ) → P s
   ones-row (suc n) [] e p = absurd (omega arith)
   ones-row (suc n) (s ∷ a) e p = ap₂ _∷_ (one s (p .0)) (ones-row n a (omega arith) (p .1))
 
-  ones-with : (n r : ℕ) (a : List ℕ) → length a ≡ r * n → All P a → withFactors f (ones n) r a ≡ a
+  pub ones-with : (n r : ℕ) (a : List ℕ) → length a ≡ r * n → All P a → withFactors f (ones n) r a ≡ a
   unfolding withFactors
   ones-with n zero a e p = empty a (omega arith)
   ones-with n (suc r) a e p = rw (length-replicate {A = ℕ} n 1)
@@ -229,17 +309,24 @@ module _ (P : ℕ → Type 0) (f : ℕ → ℕ → ℕ) (one : (s : ℕ) → P s
       (ones-with n r (drop n a) (rest-length r n a e) (all-drop P n a p))
       ∙ take-append-drop n a)
 
+module _ (d : ℕ) (𝓕 : Field (gf d)) where
+  pub one-multiplies : (s : ℕ) → IsSymbol d s → times d 1 s ≡ s
+  one-multiplies s p = one-times (gf d) 𝓕 p
+
+  pub one-divides : (s : ℕ) → IsSymbol d s → over d s 1 ≡ s
+  one-divides s p = over-unique (gf d) 𝓕 p (𝓕 .one-in) p (𝓕 .one-zero) (one-times (gf d) 𝓕 p)
+
 module _ (c : Code) (y : Proper c) where
-  abbrev pub plain : Description
-  plain = record { code = c; factors = ones (columns c) }
-
-  pub multiplied-ones : {a : List ℕ} → IsArray c a → multiplied plain a ≡ a
-  multiplied-ones {a} i =
-      ones-with (IsSymbol (c .degree)) (times (c .degree)) (λ s p. one-times (gf (c .degree)) (y .field) p)
+  pub multiplied-ones : {a : List ℕ} → IsArray c a → multiplied (plain c) a ≡ a
+  multiplied-ones {a} i = ones-with (IsSymbol (c .degree)) (times (c .degree)) (one-multiplies (c .degree) (y .field))
       (columns c) (rows c) a (i .count) (i .symbols)
 
-  pub divided-ones : {a : List ℕ} → IsArray c a → divided plain a ≡ a
-  divided-ones {a} i =
-      ones-with (IsSymbol (c .degree)) (λ f s. over (c .degree) s f)
-      (λ s p. let 𝓕 = y .field in over-unique (gf (c .degree)) 𝓕 p (𝓕 .one-in) p (𝓕 .one-zero) (one-times (gf (c .degree)) 𝓕 p))
+  pub divided-ones : {a : List ℕ} → IsArray c a → divided (plain c) a ≡ a
+  divided-ones {a} i = ones-with (IsSymbol (c .degree)) (λ f s. over (c .degree) s f) (one-divides (c .degree) (y .field))
       (columns c) (rows c) a (i .count) (i .symbols)
+
+  pub ones-factors : Factors (plain c)
+  ones-factors = record {
+    count = length-replicate (columns c) 1;
+    symbols = each-factor (c .degree) (y .field) (ones (columns c)) (each-one (columns c));
+  }

@@ -8,3 +8,4 @@ pub mod Columns
 pub mod Right
 pub mod Lost
 pub mod Factors
+pub mod Plain

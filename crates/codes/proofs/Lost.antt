@@ -12,6 +12,7 @@
 --   joint-same          the joint limit reads the points' number alone
 --   Remains             what 16, 17 and 8 leave; remains, from them
 --   PassedLost          what all checks leave; lost-passed, from them
+--   core-with           what is left of an array multiplied by factors, or divided, is what is left, so treated with what is left of them
 -- Assumes nothing.
 use mathlib.Core.Path.{_≡_, refl, sym, ap, ap₂, _∙_}
 use mathlib.Core.Logic.{_↔_}
@@ -22,7 +23,7 @@ use native.Mathlib.Nat.{zero-add, zero-mul, mul-le-mul}
 use native.Mathlib.Decide.{ℕ-discrete}
 use native.Mathlib.Omega.{arith}
 use lib.ListN.{length, getD, set, take, drop, length-set, take-append-drop}
-use lib.Seq.{ext-getD, getD-set-same, getD-set-other}
+use lib.Seq.{ext-getD, getD-set-same, getD-set-other, take-at, drop-at}
 use lib.Dec.{ltb}
 use borrow.Author.Tests.{eq-eqb, ne-eqb, ltb-false, le-ltb}
 use Rattle.refusal.specs.Refusal.{_when_, first, someOutside, isIn, repeated, badColumns}
@@ -35,13 +36,15 @@ use Rattle.poly.proofs.Roots.{Distinct}
 use Rattle.codes.specs.Code.{Code, codeOf, columns, rows, total, largest, jointLimit, flag, flagsFrom}
 use Rattle.codes.specs.Code.{IsMessage, IsArray, encodedRows, encoded, CodeArray}
 use Rattle.codes.specs.Lost.{lostFlags, right, rightRows, core, coreOf}
+use Rattle.codes.specs.Factors.{Description, withFactorsRow, withFactors}
 use Rattle.codes.specs.Checks.{arrayChecks, decodeChecks, remainingChecks, lostChecks}
 use Rattle.codes.proofs.Parts.{all-map, row-length, rest-length, empty}
 use Rattle.codes.proofs.Proper.{Within, Proper, neither, lengths-test, absent-test, distinct-test}
+use Rattle.codes.proofs.Factors.{Factors, made-row, made-rest}
 use Rattle.codes.proofs.Passed.{Counts, counted, total-most, largest-most, PassedArray, arrays}
 use Rattle.codes.proofs.Flags.{flags-length, flag-here}
 use Rattle.codes.proofs.Messages.{first-row, other-rows, one-message}
-use Rattle.codes.proofs.Right.{all-right, distinct-right, right-flags, right-map, right-all, length-rows, all-rows}
+use Rattle.codes.proofs.Right.{all-right, distinct-right, right-flags, right-same, right-map, right-all, length-rows, all-rows}
 
 -- lost columns, each below n and none named twice
 pub record Lost (n : ℕ) (L : List ℕ) : Type 0 where
@@ -221,13 +224,16 @@ unfolding badColumns someOutside repeated
 none-columns n = refl
 
 -- 'the case with nothing lost': the checks are those of decoding
-pub none-remaining : (c : Code) (τ : ℕ) (y a f w : List ℕ) → first (lostChecks c τ [] y a f w) ≡ first (decodeChecks c τ y a f w)
-none-remaining c τ y a f w = same-behind (arrayChecks c y a f w) (remainingChecks c τ []) _ tt
+pub none-remaining : (D : Description) (τ : ℕ) (y a f w : List ℕ) → first (lostChecks D τ [] y a f w) ≡ first (decodeChecks D τ y a f w)
+none-remaining D τ y a f w = same-behind (arrayChecks D y a f w) (remainingChecks c τ []) _ tt
     (λ e. miss 16 _ _ (none-columns (columns c))
     ∙ miss 17 _ _ (ap (λ (d : Code). ltb (columns d) (largest (c .lengths))) (core-none c) ∙ le-ltb (columns c) _ (enough e))
     ∙ ap (λ (d : Code). first ((8 when ltb (jointLimit d) τ) ∷ [])) (core-none c))
   where
-    enough : 0 ≡ first (arrayChecks c y a f w) → largest (c .lengths) ≤ columns c
+    c : Code
+    c = D .code
+
+    enough : 0 ≡ first (arrayChecks D y a f w) → largest (c .lengths) ≤ columns c
     enough e = largest-most (columns c) (c .lengths) (counted c _ e .0 .lengths)
 
 -- what the checks leave
@@ -251,7 +257,34 @@ pub record PassedLost (c : Code) (τ : ℕ) (L y a f w : List ℕ) : Type 0 wher
   pub array : PassedArray c y a f w
   pub remain : Remains c τ L
 
-pub lost-passed : (c : Code) (τ : ℕ) (L y a f w : List ℕ) → 0 ≡ first (lostChecks c τ L y a f w) → PassedLost c τ L y a f w
-lost-passed c τ L y a f w e =
-    let p = arrays c y a f w _ e in
-    record { array = p .0; remain = remains c τ L (p .0 .counts .some-columns) (p .1) }
+pub lost-passed : (D : Description) (τ : ℕ) (L y a f w : List ℕ) → 0 ≡ first (lostChecks D τ L y a f w)
+    → PassedLost (D .code) τ L y a f w × Factors D
+lost-passed D τ L y a f w e =
+    let (array, factors, rest) = arrays D y a f w _ e in
+    (record { array = array; remain = remains (D .code) τ L (array .counts .some-columns) rest }, factors)
+
+-- with factors
+
+module _ (f : ℕ → ℕ → ℕ) where
+  right-row : (ls fs a : List ℕ) → length a ≡ length fs → right ls (withFactorsRow f fs a) ≡ withFactorsRow f (right ls fs) (right ls a)
+  unfolding right withFactorsRow
+  right-row [] fs a e = refl
+  right-row (l ∷ ls) [] a e = refl
+  right-row (l ∷ ls) (g ∷ fs) [] e = absurd (omega arith)
+  right-row (zero ∷ ls) (g ∷ fs) (s ∷ a) e = ap (_∷_ (f g s)) (right-row ls fs a (omega arith))
+  right-row (suc l ∷ ls) (g ∷ fs) (s ∷ a) e = right-row ls fs a (omega arith)
+
+  pub core-with : (ls fs : List ℕ) → length ls ≡ length fs → (r : ℕ) (y : List ℕ) → length y ≡ r * length fs
+      → rightRows ls (length fs) r (withFactors f fs r y) ≡ withFactors f (right ls fs) r (rightRows ls (length fs) r y)
+  unfolding withFactors rightRows
+  core-with ls fs d zero y e = refl
+  core-with ls fs d (suc r) y e =
+      let n : ℕ = length fs in
+      let row : List ℕ = right ls (take n y) in
+      let rest : List ℕ = rightRows ls n r (drop n y) in
+      let same : length row ≡ length (right ls fs) = right-same ls (take n y) fs (row-length r n y e ∙ sym d) (sym d) in
+      ap₂ _++_
+      (ap (right ls) (made-row f fs r y e) ∙ right-row ls fs (take n y) (row-length r n y e)
+      ∙ ap (withFactorsRow f (right ls fs)) (sym (take-at row rest (length (right ls fs)) same)))
+      (ap (rightRows ls n r) (made-rest f fs r y e) ∙ core-with ls fs d r (drop n y) (rest-length r n y e)
+      ∙ ap (withFactors f (right ls fs) r) (sym (drop-at row rest (length (right ls fs)) same)))

@@ -20,8 +20,10 @@ use Rattle.refusal.proofs.Laws.{within}
 use Rattle.refusal.proofs.Ladders.{clear}
 use Rattle.field.proofs.Instance.{field}
 use Rattle.codes.specs.Code.{Code, columns, rows, total, largest, IsMessage, IsArray, jointLimit}
-use Rattle.codes.specs.Checks.{codeChecks, wrongLength, spaceBytes, encodeChecks, readChecks, arrayChecks, decodeChecks}
+use Rattle.codes.specs.Factors.{Description}
+use Rattle.codes.specs.Checks.{codeChecks, badFactors, wrongLength, spaceBytes, encodeChecks, readChecks, arrayChecks, decodeChecks}
 use Rattle.codes.proofs.Proper.{Within, Proper, neither, lengths-test, proper, array, message}
+use Rattle.codes.proofs.Factors.{Factors, factors-test}
 
 pub total-most : (n : ℕ) (ks : List ℕ) → Within 1 n ks → total ks ≤ length ks * n
 unfolding total
@@ -76,28 +78,36 @@ pub counts-of : (c : Code) {k : ℕ} → k ≡ first (codeChecks c) → k ≡ 0 
 counts-of c e z = counted c [] (sym z ∙ e) .0
 
 -- what the calls have in common: b is the test of the lengths of buffers, s the symbols that are input
-record Common (c : Code) (b : Bool) (s : List ℕ) (ds : List Check) : Type 0 where
-  counts : Counts c
-  proper : Proper c
+record Common (D : Description) (b : Bool) (s : List ℕ) (ds : List Check) : Type 0 where
+  counts : Counts (D .code)
+  proper : Proper (D .code)
   buffers : b ≡ false
-  symbols : someOutsideField (c .degree) s ≡ false
+  factors : badFactors (D .code .degree) (D .factors) ≡ false
+  symbols : someOutsideField (D .code .degree) s ≡ false
   rest : 0 ≡ first ds
 
-common : (c : Code) (b : Bool) (s : List ℕ) (ds : List Check)
-    → 0 ≡ first (codeChecks c ++ (5 when b) ∷ (6 when badPoints (c .degree) (c .points)) ∷ (7 when someOutsideField (c .degree) s) ∷ ds)
-    → Common c b s ds
-common c b s ds e =
-    let p = counted c _ e in
-    let p₅ = clear 4 _ _ (p .1) in
-    let p₆ = clear 5 _ _ (p₅ .1) in
-    let p₇ = clear 6 _ _ (p₆ .1) in
-    record {
-      counts = p .0;
-      proper = proper c (field (c .degree) (p .0 .degree)) (lengths-test 1 (columns c) (c .lengths) .1 (p .0 .lengths)) (p₆ .0);
-      buffers = p₅ .0;
-      symbols = p₇ .0;
-      rest = p₇ .1;
-    }
+module _ (D : Description) where
+  open Description D using (code, factors)
+  open Code code using (degree, points, lengths)
+
+  common : (b : Bool) (s : List ℕ) (ds : List Check)
+      → 0 ≡ first (codeChecks code ++ (5 when b) ∷ (6 when badPoints degree points) ∷ (23 when badFactors degree factors)
+      ∷ (7 when someOutsideField degree s) ∷ ds)
+      → Common D b s ds
+  common b s ds e =
+      let p = counted code _ e in
+      let p₅ = clear 4 _ _ (p .1) in
+      let p₆ = clear 5 _ _ (p₅ .1) in
+      let p₂₃ = clear 22 _ _ (p₆ .1) in
+      let p₇ = clear 6 _ _ (p₂₃ .1) in
+      record {
+        counts = p .0;
+        proper = proper code (field degree (p .0 .degree)) (lengths-test 1 (columns code) lengths .1 (p .0 .lengths)) (p₆ .0);
+        buffers = p₅ .0;
+        factors = p₂₃ .0;
+        symbols = p₇ .0;
+        rest = p₇ .1;
+      }
 
 pub right-length : (n : ℕ) (l : List ℕ) → wrongLength n l ≡ false → length l ≡ n
 right-length n l e = eqb-true (length l) n (not-false _ e)
@@ -105,22 +115,29 @@ right-length n l e = eqb-true (length l) n (not-false _ e)
 pub is-right : (n : ℕ) (l : List ℕ) → length l ≡ n → wrongLength n l ≡ false
 is-right n l e = ap not (eq-eqb (length l) n e)
 
+factors-of : (D : Description) → wrongLength (columns (D .code)) (D .factors) ≡ false → badFactors (D .code .degree) (D .factors) ≡ false
+    → Factors D
+factors-of D l e = record { count = right-length _ (D .factors) l; symbols = factors-test (D .code .degree) (D .factors) .0 e }
+
 pub record PassedEncoding (c : Code) (m a : List ℕ) : Type 0 where
   pub counts : Counts c
   pub proper : Proper c
   pub message : IsMessage c m
   pub array : length a ≡ rows c * columns c
 
-pub encoding : (c : Code) (m a : List ℕ) → 0 ≡ first (encodeChecks c m a) → PassedEncoding c m a
-encoding c m a e =
-    let p = common c _ m [] e in
-    let l = neither (wrongLength (total (c .lengths)) m) (wrongLength (rows c * columns c) a) .0 (p .buffers) in
-    record {
-      counts = p .counts;
-      proper = p .proper;
-      message = message c m (right-length _ m (l .0)) (p .symbols);
-      array = right-length _ a (l .1);
-    }
+pub encoding : (D : Description) (m a : List ℕ) → 0 ≡ first (encodeChecks D m a) → PassedEncoding (D .code) m a × Factors D
+encoding D m a e =
+    let p = common D _ m [] e in
+    let l₂ = neither _ (wrongLength (columns (D .code)) (D .factors)) .0 (p .buffers) in
+    let l = neither (wrongLength (total (D .code .lengths)) m) (wrongLength (rows (D .code) * columns (D .code)) a) .0 (l₂ .0) in (
+      record {
+        counts = p .counts;
+        proper = p .proper;
+        message = message (D .code) m (right-length _ m (l .0)) (p .symbols);
+        array = right-length _ a (l .1);
+      },
+      factors-of D (l₂ .1) (p .factors),
+    )
 
 pub record PassedReading (c : Code) (a m : List ℕ) : Type 0 where
   pub counts : Counts c
@@ -128,16 +145,19 @@ pub record PassedReading (c : Code) (a m : List ℕ) : Type 0 where
   pub array : IsArray c a
   pub message : length m ≡ total (c .lengths)
 
-pub reading : (c : Code) (a m : List ℕ) → 0 ≡ first (readChecks c a m) → PassedReading c a m
-reading c a m e =
-    let p = common c _ a [] e in
-    let l = neither (wrongLength (total (c .lengths)) m) (wrongLength (rows c * columns c) a) .0 (p .buffers) in
-    record {
-      counts = p .counts;
-      proper = p .proper;
-      array = array c a (right-length _ a (l .1)) (p .symbols);
-      message = right-length _ m (l .0);
-    }
+pub reading : (D : Description) (a m : List ℕ) → 0 ≡ first (readChecks D a m) → PassedReading (D .code) a m × Factors D
+reading D a m e =
+    let p = common D _ a [] e in
+    let l₂ = neither _ (wrongLength (columns (D .code)) (D .factors)) .0 (p .buffers) in
+    let l = neither (wrongLength (total (D .code .lengths)) m) (wrongLength (rows (D .code) * columns (D .code)) a) .0 (l₂ .0) in (
+      record {
+        counts = p .counts;
+        proper = p .proper;
+        array = array (D .code) a (right-length _ a (l .1)) (p .symbols);
+        message = right-length _ m (l .0);
+      },
+      factors-of D (l₂ .1) (p .factors),
+    )
 
 -- what 1 to 7 of decoding leave
 pub record PassedArray (c : Code) (y a f w : List ℕ) : Type 0 where
@@ -148,51 +168,41 @@ pub record PassedArray (c : Code) (y a f w : List ℕ) : Type 0 where
   pub flags : length f ≡ columns c
   pub space : spaceBytes ≤ length w
 
-pub arrays : (c : Code) (y a f w : List ℕ) (ds : List Check) → 0 ≡ first (arrayChecks c y a f w ++ ds)
-    → PassedArray c y a f w × (0 ≡ first ds)
-arrays c y a f w ds e =
-    let p = common c _ y ds e in
-    let l₃ = neither _ (ltb (length w) spaceBytes) .0 (p .buffers) in
-    let l₂ = neither _ (wrongLength (columns c) f) .0 (l₃ .0) in
-    let l₁ = neither (wrongLength (rows c * columns c) y) (wrongLength (rows c * columns c) a) .0 (l₂ .0) in (
+pub arrays : (D : Description) (y a f w : List ℕ) (ds : List Check) → 0 ≡ first (arrayChecks D y a f w ++ ds)
+    → PassedArray (D .code) y a f w × Factors D × (0 ≡ first ds)
+arrays D y a f w ds e =
+    let p = common D _ y ds e in
+    let l₄ = neither _ (wrongLength (columns (D .code)) (D .factors)) .0 (p .buffers) in
+    let l₃ = neither _ (ltb (length w) spaceBytes) .0 (l₄ .0) in
+    let l₂ = neither _ (wrongLength (columns (D .code)) f) .0 (l₃ .0) in
+    let l₁ = neither (wrongLength (rows (D .code) * columns (D .code)) y) (wrongLength (rows (D .code) * columns (D .code)) a) .0 (l₂ .0) in (
       record {
         counts = p .counts;
         proper = p .proper;
-        received = array c y (right-length _ y (l₁ .0)) (p .symbols);
+        received = array (D .code) y (right-length _ y (l₁ .0)) (p .symbols);
         answer = right-length _ a (l₁ .1);
         flags = right-length _ f (l₂ .1);
         space = ltb-false (length w) spaceBytes (l₃ .1);
       },
+      factors-of D (l₄ .1) (p .factors),
       p .rest,
     )
 
 -- from the number that a function of the buffers' lengths answers
-pub counts-of-array : (c : Code) (y : List ℕ) {k n m s : ℕ}
-    → ((a f w : List ℕ) → length a ≡ n → length f ≡ m → length w ≡ s → k ≡ first (arrayChecks c y a f w)) → k ≡ 0 → Counts c
-counts-of-array c y {k} {n} {m} {s} e z = counted c _
+pub counts-of-array : (D : Description) (y : List ℕ) {k n m s : ℕ}
+    → ((a f w : List ℕ) → length a ≡ n → length f ≡ m → length w ≡ s → k ≡ first (arrayChecks D y a f w)) → k ≡ 0 → Counts (D .code)
+counts-of-array D y {k} {n} {m} {s} e z = counted (D .code) _
     (sym z ∙ e (replicate n 0) (replicate m 0) (replicate s 0) (length-replicate n 0) (length-replicate m 0) (length-replicate s 0)) .0
 
 pub record PassedDecoding (c : Code) (τ : ℕ) (y a f w : List ℕ) : Type 0 where
-  pub counts : Counts c
-  pub proper : Proper c
-  pub received : IsArray c y
-  pub answer : length a ≡ rows c * columns c
-  pub flags : length f ≡ columns c
-  pub space : spaceBytes ≤ length w
+  pub array : PassedArray c y a f w
   pub limit : τ ≤ jointLimit c
 
-pub decoding : (c : Code) (τ : ℕ) (y a f w : List ℕ) → 0 ≡ first (decodeChecks c τ y a f w) → PassedDecoding c τ y a f w
-decoding c τ y a f w e =
-    let p = arrays c y a f w _ e in
-    record {
-      counts = p .0 .counts;
-      proper = p .0 .proper;
-      received = p .0 .received;
-      answer = p .0 .answer;
-      flags = p .0 .flags;
-      space = p .0 .space;
-      limit = ltb-false (jointLimit c) τ (clear 7 _ _ (p .1) .0);
-    }
+pub decoding : (D : Description) (τ : ℕ) (y a f w : List ℕ) → 0 ≡ first (decodeChecks D τ y a f w)
+    → PassedDecoding (D .code) τ y a f w × Factors D
+decoding D τ y a f w e =
+    let (array, factors, rest) = arrays D y a f w _ e in
+    (record { array = array; limit = ltb-false (jointLimit (D .code)) τ (clear 7 _ _ rest .0) }, factors)
 
 -- a test of a length, where the code has the length and the right one as numbers
 pub as-tested : {x n n′ : ℕ} (l : List ℕ) → length l ≡ x → n′ ≡ n → wrongLength n l ≡ not (eqb x n′)

@@ -3,17 +3,20 @@
 --   unchecked c           the test of number 18
 --   shapeChecks most c    1 to 4 and 18, before the lengths of the buffers; n is at most `most`
 --   codeChecks c          those of the calls on arrays
---   encodeChecks, readChecks, decodeChecks    'Encoding checks 1 to 7, reading 1 to 7 then 9, decoding 1 to 8.'
+--   badFactors d fs       the test of number 23
+--   encodeChecks, readChecks, decodeChecks    'Encoding checks 1 to 7, reading 1 to 7 then 9, decoding 1 to 8.' 02, 2026-11, has 23
+--                         between 6 and 7
 --   arrayChecks           1 to 7 of decoding
 --   remainingChecks       16, 17 and 8 of a decoding with lost columns; lostChecks, all of them
 use mathlib.Core.Bool.{Bool, not, _||_}
 use mathlib.Core.List.{List, [], _∷_, _++_}
-use Prim.Native.Nat.{ℕ, _*_}
+use Prim.Native.Nat.{ℕ, _-_, _*_, _^_}
 use lib.Dec.{eqb, ltb}
 use lib.ListN.{length}
 use Rattle.refusal.specs.Refusal.{Check, _when_, badDegree, outside, someOutside, isIn, badPoints, badColumns, someOutsideField}
 use Rattle.codes.specs.Code.{Code, columns, rows, total, largest, jointLimit}
 use Rattle.codes.specs.Lost.{core}
+use Rattle.codes.specs.Factors.{Description}
 
 -- 02, 2026-05: '18, some k equals n, directly after 4': all n columns, 'Lost columns count in n here'
 abbrev pub unchecked : Code → Bool
@@ -40,32 +43,39 @@ wrongLength n l = not (eqb (length l) n)
 abbrev pub spaceBytes : ℕ
 spaceBytes = 49152
 
--- 5, 6 and 7 of a message and an array, of which the symbols s are the input
-abbrev pub bufferChecks : Code → List ℕ → List ℕ → List ℕ → List Check
-bufferChecks c m a s =
-    (5 when wrongLength (total (c .lengths)) m || wrongLength (rows c * columns c) a)
-    ∷ (6 when badPoints (c .degree) (c .points))
-    ∷ (7 when someOutsideField (c .degree) s)
+-- 02, 2026-11: '23, a factor outside the field or zero, after 6 and before 7': a symbol that is not zero is 1 to 2^d − 1
+abbrev pub badFactors : ℕ → List ℕ → Bool
+badFactors d fs = someOutside 1 (2 ^ d - 1) fs
+
+-- 5, 6, 23 and 7 of a message and an array, of which the symbols s are the input; 'a missing or spare factor is 5'
+abbrev pub bufferChecks : Description → List ℕ → List ℕ → List ℕ → List Check
+bufferChecks D m a s =
+    (5 when wrongLength (total (D .code .lengths)) m || wrongLength (rows (D .code) * columns (D .code)) a
+    || wrongLength (columns (D .code)) (D .factors))
+    ∷ (6 when badPoints (D .code .degree) (D .code .points))
+    ∷ (23 when badFactors (D .code .degree) (D .factors))
+    ∷ (7 when someOutsideField (D .code .degree) s)
     ∷ []
 
-abbrev pub encodeChecks : Code → List ℕ → List ℕ → List Check
-encodeChecks c m a = codeChecks c ++ bufferChecks c m a m
+abbrev pub encodeChecks : Description → List ℕ → List ℕ → List Check
+encodeChecks D m a = codeChecks (D .code) ++ bufferChecks D m a m
 
 -- 9 is no test of numbers: see the promise of reading
-abbrev pub readChecks : Code → List ℕ → List ℕ → List Check
-readChecks c a m = codeChecks c ++ bufferChecks c m a a
+abbrev pub readChecks : Description → List ℕ → List ℕ → List Check
+readChecks D a m = codeChecks (D .code) ++ bufferChecks D m a a
 
-abbrev pub arrayChecks : Code → List ℕ → List ℕ → List ℕ → List ℕ → List Check
-arrayChecks c y a f w =
-    codeChecks c
-    ++ (5 when wrongLength (rows c * columns c) y || wrongLength (rows c * columns c) a || wrongLength (columns c) f
-    || ltb (length w) spaceBytes)
-    ∷ (6 when badPoints (c .degree) (c .points))
-    ∷ (7 when someOutsideField (c .degree) y)
+abbrev pub arrayChecks : Description → List ℕ → List ℕ → List ℕ → List ℕ → List Check
+arrayChecks D y a f w =
+    codeChecks (D .code)
+    ++ (5 when wrongLength (rows (D .code) * columns (D .code)) y || wrongLength (rows (D .code) * columns (D .code)) a
+    || wrongLength (columns (D .code)) f || ltb (length w) spaceBytes || wrongLength (columns (D .code)) (D .factors))
+    ∷ (6 when badPoints (D .code .degree) (D .code .points))
+    ∷ (23 when badFactors (D .code .degree) (D .factors))
+    ∷ (7 when someOutsideField (D .code .degree) y)
     ∷ []
 
-abbrev pub decodeChecks : Code → ℕ → List ℕ → List ℕ → List ℕ → List ℕ → List Check
-decodeChecks c τ y a f w = arrayChecks c y a f w ++ (8 when ltb (jointLimit c) τ) ∷ []
+abbrev pub decodeChecks : Description → ℕ → List ℕ → List ℕ → List ℕ → List ℕ → List Check
+decodeChecks D τ y a f w = arrayChecks D y a f w ++ (8 when ltb (jointLimit (D .code)) τ) ∷ []
 
 -- 02, 2026-03: '16, a lost column is not below n or is named twice; 17, fewer remaining columns than the largest k; both after 7
 -- and before 8'; 'joint and safe limit are worked out over those'
@@ -76,5 +86,5 @@ remainingChecks c τ L =
     ∷ (8 when ltb (jointLimit (core c L)) τ)
     ∷ []
 
-abbrev pub lostChecks : Code → ℕ → List ℕ → List ℕ → List ℕ → List ℕ → List ℕ → List Check
-lostChecks c τ L y a f w = arrayChecks c y a f w ++ remainingChecks c τ L
+abbrev pub lostChecks : Description → ℕ → List ℕ → List ℕ → List ℕ → List ℕ → List ℕ → List Check
+lostChecks D τ L y a f w = arrayChecks D y a f w ++ remainingChecks (D .code) τ L

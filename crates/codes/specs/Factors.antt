@@ -1,23 +1,26 @@
 -- Column factors: 02, 2026-11, 'The mill in the north multiplies each column by a fixed nonzero factor before striking.'
 --
---   Description         a code, and a factor for each of its columns
+--   Description         a code, and a factor for each of its columns; descriptionOf d xs fs ks, that of these
 --   withFactors f fs r a    f of the factor and the symbol, in each column of r rows
 --   multiplied D a      each symbol times its column's factor
 --   divided D y         each symbol divided by its column's factor
 --   encodedBy D m       the array that is struck for a message
 --   CodeArrayBy D a     a is one
---   ones n              n factors of one
+--   ones n              n factors of one; plain c, the description of the code c with these
 use mathlib.Core.Path.{_≡_}
 use mathlib.Core.List.{List, [], _∷_, _++_}
 use Prim.Native.Nat.{ℕ, zero, suc}
 use lib.ListN.{length, take, drop, replicate}
 use Rattle.field.specs.Symbols.{times, over}
-use Rattle.codes.specs.Code.{Code, rows, IsMessage, encoded}
+use Rattle.codes.specs.Code.{Code, codeOf, columns, rows, IsMessage, encoded}
 
 -- 'The code description … gains n factors'
 pub record Description : Type 0 where
   pub code : Code
   pub factors : List ℕ
+
+abbrev pub descriptionOf : (d : ℕ) (points factors lengths : List ℕ) → Description
+descriptionOf d xs fs ks = record { code = codeOf d xs ks; factors = fs }
 
 -- of one row
 unfoldable pub withFactorsRow : (ℕ → ℕ → ℕ) → List ℕ → List ℕ → List ℕ
@@ -46,3 +49,6 @@ CodeArrayBy D a = (m : List ℕ) × IsMessage (D .code) m × (encodedBy D m ≡ 
 -- 'All ones gives today's answers'
 abbrev pub ones : ℕ → List ℕ
 ones n = replicate n 1
+
+abbrev pub plain : Code → Description
+plain c = record { code = c; factors = ones (columns c) }

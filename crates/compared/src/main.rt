@@ -1,5 +1,5 @@
 // Makes the calls that standard input asks for, by the functions that C callers link, and writes what they leave. A call is a frame
-// of 512 bytes; numbers of two bytes have the low one first:
+// of 610 bytes; numbers of two bytes have the low one first:
 //
 //   0           0, 1, 2 for encoding, reading and decoding a mark; 3, 4, 5 for a ring; 6 for decoding a ring with lost sectors, and 7
 //               a mark with lost columns
@@ -15,6 +15,8 @@
 //   118 to 502  the symbols
 //   503         how many lost columns there are, at most 8
 //   504 to 511  the lost columns
+//   512         how many factors there are, at most 97
+//   513 to 609  the factors
 //
 // The buffers are lent with 7 in the result, 9 in the flags and 1 in the working space. A call gives a line: its number, the result and
 // the flags in hexadecimal, and how many bytes of the working space are zero. What is written is held to the answers of another
@@ -115,6 +117,7 @@ fn mark(
     limit: u32,
     lengths: &[u8],
     points: &[u8],
+    factors: &[u8],
     lost: &[u8],
     input: &[u8],
     result: &mut [u8],
@@ -122,16 +125,17 @@ fn mark(
     space: &mut [u8],
 ) -> u32 {
     if call == 0 {
-        return firmware::gren_mark_encode(degree, lengths, points, input, result);
+        return firmware::gren_mark_encode(degree, lengths, points, factors, input, result);
     }
     if call == 1 {
-        return firmware::gren_mark_read(degree, lengths, points, input, result);
+        return firmware::gren_mark_read(degree, lengths, points, factors, input, result);
     }
     if call == 2 {
         return firmware::gren_mark_decode(
             degree,
             lengths,
             points,
+            factors,
             limit,
             input,
             result,
@@ -143,6 +147,7 @@ fn mark(
         degree,
         lengths,
         points,
+        factors,
         limit,
         lost,
         input,
@@ -178,15 +183,16 @@ fn ring(
 
 // The call of a frame.
 fn made(frame: &[u8], result: &mut [u8], flags: &mut [u8], space: &mut [u8]) -> u32
-    requires { ⌜ length (now frame) ≡ 512 ⌝ }
+    requires { ⌜ length (now frame) ≡ 610 ⌝ }
 {
+    let call = frame[0];
     let x = number(frame, 1);
     let limit = number(frame, 3);
     let input = part(frame, 118, many(frame, 8, 385));
     let lost = part(frame, 504, few(frame, 503, 8));
-    if 2 < frame[0] && frame[0] < 7 {
+    if 2 < call && call < 7 {
         return ring(
-            frame[0],
+            call,
             x,
             number(frame, 5),
             limit,
@@ -199,12 +205,14 @@ fn made(frame: &[u8], result: &mut [u8], flags: &mut [u8], space: &mut [u8]) -> 
     }
     let lengths = part(frame, 14, few(frame, 6, 7));
     let points = part(frame, 21, few(frame, 7, 97));
+    let factors = part(frame, 513, few(frame, 512, 97));
     mark(
-        frame[0],
+        call,
         x,
         limit,
         lengths,
         points,
+        factors,
         lost,
         input,
         result,
@@ -215,7 +223,7 @@ fn made(frame: &[u8], result: &mut [u8], flags: &mut [u8], space: &mut [u8]) -> 
 
 // Makes the call of a frame, and shows what it leaves.
 fn shown(frame: &[u8], result: &mut [u8], flags: &mut [u8], space: &mut [u8])
-    requires { ⌜ length (now frame) ≡ 512 ⌝ }
+    requires { ⌜ length (now frame) ≡ 610 ⌝ }
 {
     let r = made(frame, result, flags, space);
     show(r, result, flags, space);
@@ -223,7 +231,7 @@ fn shown(frame: &[u8], result: &mut [u8], flags: &mut [u8], space: &mut [u8])
 
 // The same, with buffers of the lengths that the frame asks for.
 fn lent(frame: &[u8], result: &mut [u8], flags: &mut [u8], space: &mut [u8])
-    requires { ⌜ (length (now frame) ≡ 512) × (length (now result) ≡ 385) × (length (now flags) ≡ 97) × (length (now space) ≡ 49399) ⌝ }
+    requires { ⌜ (length (now frame) ≡ 610) × (length (now result) ≡ 385) × (length (now flags) ≡ 97) × (length (now space) ≡ 49399) ⌝ }
 {
     let a = many(frame, 10, 385);
     let f = few(frame, 12, 97);
@@ -233,7 +241,7 @@ fn lent(frame: &[u8], result: &mut [u8], flags: &mut [u8], space: &mut [u8])
 
 // The same with fresh buffers.
 fn run(frame: &[u8])
-    requires { ⌜ length (now frame) ≡ 512 ⌝ }
+    requires { ⌜ length (now frame) ≡ 610 ⌝ }
 {
     let mut result = [7u8; 385];
     let mut flags = [9u8; 97];
@@ -244,8 +252,8 @@ fn run(frame: &[u8])
 fn main() {
     let mut turns = u64::MAX;
     while turns > 0 {
-        let mut frame = [0u8; 512];
-        if io::read_full(STDIN_FILENO, &mut frame) < 512 {
+        let mut frame = [0u8; 610];
+        if io::read_full(STDIN_FILENO, &mut frame) < 610 {
             return;
         }
         run(&frame);

@@ -4,3 +4,4 @@ pub mod Promised
 pub mod Sound
 pub mod Replaced
 pub mod NoMisfit
+pub mod Plain

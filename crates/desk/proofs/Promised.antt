@@ -6,17 +6,17 @@
 -- Assumes nothing.
 use mathlib.Core.Path.{_≡_, sym, ap, ap₂, _∙_}
 use mathlib.Core.List.{List}
-use Prim.Native.Nat.{ℕ, suc}
+use Prim.Native.Nat.{ℕ}
 use native.Mathlib.Omega.{arith}
 use Rattle.refusal.specs.Refusal.{Check, first}
 use Rattle.refusal.specs.Meaning.{Meaning, refusal}
 use Rattle.refusal.proofs.Keeping as keeping
-use Rattle.codes.specs.Code.{Code}
+use Rattle.codes.specs.Factors.{Description}
 use Rattle.mark.specs.Promises.{meaning}
 use Rattle.mark.specs.declared.Outcome.{Outcome}
 use Rattle.mark.specs.declared.Outcome.the-variants.{Done}
 use Rattle.mark.proofs.Promised.{meaning-faithful}
-use Rattle.desk.specs.Desk.{zeroDesk, spareCode, openChecks, placed, putChecks, Hands, Opens, Puts}
+use Rattle.desk.specs.Desk.{zeroDesk, spare, openChecks, placed, putChecks, Hands, Opens, Puts}
 use Rattle.desk.specs.declared.Desk.{Desk}
 use Rattle.desk.specs.declared.Judged.{Judged}
 use Rattle.desk.specs.declared.Opened.{Opened}
@@ -52,9 +52,9 @@ module _ (cs : List Check) (done refused : Desk) where
       let e = keeping.unique cs refusing Own (λ none x y p q. p ∙ sym q) (meaning o, d) (meaning o′, d′) p q in
       (meaning-faithful o o′ (ap (λ (h : Meaning × Desk). h .0) e), ap (λ (h : Meaning × Desk). h .1) e)
 
-pub unique-opening : (c : Code) (r r′ : Opened) → Opens c r → Opens c r′ → r ≡ r′
-unique-opening c r r′ p q =
-    let e = same (openChecks c) (zeroDesk c) (zeroDesk spareCode) (r .outcome) (r′ .outcome) (r .desk) (r′ .desk) p q in
+pub unique-opening : (D : Description) (r r′ : Opened) → Opens D r → Opens D r′ → r ≡ r′
+unique-opening D r r′ p q =
+    let e = same (openChecks D) (zeroDesk D) (zeroDesk spare) (r .outcome) (r′ .outcome) (r .desk) (r′ .desk) p q in
     λ i. record { outcome = e .0 i; desk = e .1 i }
 
 pub unique-putting : (d : Desk) (i : ℕ) (s : List ℕ) (r r′ : Put) → Puts d i s r → Puts d i s r′ → r ≡ r′

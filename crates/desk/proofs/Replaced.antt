@@ -1,10 +1,10 @@
 -- Putting a column 'replaces that column and nothing else', read off the desk that is handed back.
 --
---   code-kept      the code is as it was
+--   code-kept      the code and its factors are as they were
 --   column-put     the column is the symbols that were put
 --   others-kept    the arrays before and after differ in no other column
 -- Assumes nothing.
-use mathlib.Core.Path.{_≡_, refl, sym, ap, _∙_}
+use mathlib.Core.Path.{_≡_, sym, ap, _∙_}
 use mathlib.Core.Bool.{false}
 use mathlib.Core.List.{List}
 use Prim.Native.Nat.{ℕ, _+_, _*_, _<_}
@@ -15,7 +15,7 @@ use Rattle.refusal.specs.Refusal.{first}
 use Rattle.codes.specs.Code.{columns, rows, differsAt}
 use Rattle.mark.specs.Promises.{meaning}
 use Rattle.codes.proofs.Columns.{agree-exactly, agree-at}
-use Rattle.desk.specs.Desk.{deskCode, arrayOf, placed, putChecks, Puts, Made}
+use Rattle.desk.specs.Desk.{deskCode, deskDescription, arrayOf, placed, putChecks, Puts, Made}
 use Rattle.desk.specs.declared.Desk.{Desk}
 use Rattle.desk.specs.declared.Put.{Put}
 use Rattle.desk.proofs.Promised.{handed-done}
@@ -29,8 +29,8 @@ module _ (d : Desk) (i : ℕ) (s : List ℕ) (r : Put) (m : Made d) (e : 0 ≡ f
   next : after ≡ placed d i s
   next = handed-done (putChecks d i s) (placed d i s) d (meaning (r .outcome), r .desk) h e
 
-  pub code-kept : deskCode after ≡ deskCode d
-  code-kept = ap deskCode next
+  pub code-kept : deskDescription after ≡ deskDescription d
+  code-kept = ap deskDescription next
 
   pub column-put : (l : ℕ) → l < d .rows → getD (arrayOf after) (l * d .columns + i) 0 ≡ getD s l 0
   column-put l q =

@@ -1,13 +1,16 @@
 -- What holds of a desk that came from opening and putting.
 --
 --   ZeroFrom n l     the places of l from n on are zero
---   Framed d n r xs ks    a proper code within the limits of a desk; the places of the points xs and the lengths ks that it does
---                         not use are zero
+--   Framed d n r xs fs ks    a proper code with its factors, within the limits of a desk; the places of the points xs, the factors fs
+--                    and the lengths ks that it does not use are zero
 --   Sound d          the desk has such a code; its array is symbols, and zero in the places that the code does not use
---   is-array         the array of a sound desk is one of its code
---   Openable c         what the checks of opening leave; passed, from them
+--   is-array         the array of a sound desk is one of its code; is-quotient, so it is divided by the factors
+--   cell-count       an array of it has as many symbols as the desk has cells
+--   dividing, quotient-cells    the array can be divided, and the cells of what was written are then the quotient
+--   Openable D       what the checks of opening leave; passed, from them; few-factors, there are at most 16
 --   Puttable d i s   what the checks of putting leave; puttable, from them
---   code-zero        the code of the desk that a code was opened with
+--   described-zero   the description of the desk that was opened with it
+--   spare-passed     the desk that a refused opening hands over could itself be opened
 --   sound            a desk that came from opening and putting is sound
 -- Assumes nothing.
 use mathlib.Core.Path.{_≡_, refl, sym, ap, ap₂, _∙_, subst}
@@ -26,13 +29,18 @@ use Rattle.patch.proofs.Parts.{length-lay, getD-lay-above, take-lay}
 use Rattle.refusal.specs.Refusal.{first, badDegree, outside, someOutside, outsideField, someOutsideField, isIn, repeated, badPoints}
 use Rattle.refusal.proofs.Laws.{within}
 use Rattle.refusal.proofs.Ladders.{clear}
-use Rattle.field.specs.Symbols.{IsSymbol}
+use Rattle.field.specs.Symbols.{IsSymbol, over}
 use Rattle.field.proofs.Instance.{field}
 use Rattle.poly.specs.Poly.{All}
-use Rattle.codes.specs.Code.{Code, codeOf, columns, rows, IsArray}
+use Rattle.codes.specs.Code.{codeOf, columns, rows, IsArray}
+use Rattle.codes.specs.Factors.{Description, descriptionOf, withFactors, divided}
 use Rattle.codes.proofs.Parts.{all-take}
 use Rattle.codes.proofs.Proper.{Proper, proper, symbols-test}
-use Rattle.desk.specs.Desk.{deskCode, arrayOf, zeros, zeroDesk, spareCode, openChecks, placed, putChecks, Made, opened, put}
+use Rattle.codes.proofs.Passed.{right-length}
+use Rattle.codes.proofs.Factors.{Factors, factors-test, is-divided}
+use Rattle.factors.specs.Working.{Striking}
+use Rattle.desk.specs.Desk.{deskCode, deskDescription, arrayOf, zeros, zeroDesk, spare, openChecks, placed, putChecks}
+use Rattle.desk.specs.Desk.{Made, opened, put}
 use Rattle.desk.specs.declared.Desk.{Desk}
 use Rattle.mark.specs.Promises.{meaning}
 use Rattle.desk.proofs.Promised.{handed}
@@ -41,7 +49,7 @@ use Rattle.desk.proofs.Columns.{length-column, all-column, column-other
 abbrev pub ZeroFrom : ℕ → List ℕ → Type 0
 ZeroFrom n l = (i : ℕ) → n ≤ i → getD l i 0 ≡ 0
 
-pub record Framed (d n r : ℕ) (xs ks : List ℕ) : Type 0 where
+pub record Framed (d n r : ℕ) (xs fs ks : List ℕ) : Type 0 where
   pub degree : badDegree d ≡ false
   pub some-rows : 1 ≤ r
   pub most-rows : r ≤ 4
@@ -49,15 +57,19 @@ pub record Framed (d n r : ℕ) (xs ks : List ℕ) : Type 0 where
   pub most-columns : n ≤ 16
   pub cells : r * n ≤ 64
   pub points-size : length xs ≡ 16
+  pub factors-size : length fs ≡ 16
   pub lengths-size : length ks ≡ 4
   pub column-count : length (take n xs) ≡ n
+  pub factor-count : length (take n fs) ≡ n
   pub row-count : length (take r ks) ≡ r
   pub proper : Proper (codeOf d (take n xs) (take r ks))
+  pub factors : Factors (descriptionOf d (take n xs) (take n fs) (take r ks))
   pub unused-points : ZeroFrom n xs
+  pub unused-factors : ZeroFrom n fs
   pub unused-lengths : ZeroFrom r ks
 
 pub record Sound (d : Desk) : Type 0 where
-  pub frame : Framed (d .degree) (d .columns) (d .rows) (d .points) (d .lengths)
+  pub frame : Framed (d .degree) (d .columns) (d .rows) (d .points) (d .factors) (d .lengths)
   pub array-size : length (d .array) ≡ 64
   pub symbols : All (IsSymbol (d .degree)) (d .array)
   pub unused-places : ZeroFrom (d .rows * d .columns) (d .array)
@@ -68,24 +80,50 @@ is-array {d} h = let f = h .frame in record {
   symbols = all-take (IsSymbol (d .degree)) (d .rows * d .columns) (d .array) (h .symbols);
 }
 
+pub is-quotient : {d : Desk} → Sound d → IsArray (deskCode d) (divided (deskDescription d) (arrayOf d))
+is-quotient {d} h = is-divided (deskDescription d) (h .frame .proper) (h .frame .factors) (is-array h)
+
+module _ {d : Desk} (h : Sound d) where
+  pub cell-count : {a : List ℕ} → IsArray (deskCode d) a → length a ≡ d .rows * d .columns
+  cell-count i = i .count ∙ ap₂ _*_ (h .frame .row-count) (h .frame .column-count)
+
+  pub dividing : Striking (d .degree) (take (d .columns) (d .factors)) (d .rows) (arrayOf d)
+  dividing = let f = h .frame in record {
+    degree = f .degree;
+    factors = f .factors .symbols;
+    most = omega (arith, f .factor-count, f .most-columns);
+    count = cell-count (is-array h) ∙ ap (λ (n : ℕ). d .rows * n) (sym (f .factor-count));
+    symbols = is-array h .symbols;
+  }
+
+  pub quotient-cells : (s : List ℕ)
+      → take (length (arrayOf d)) s ≡ withFactors (λ f a. over (d .degree) a f) (take (d .columns) (d .factors)) (d .rows) (arrayOf d)
+      → take (d .rows * d .columns) s ≡ divided (deskDescription d) (arrayOf d)
+  quotient-cells s e = ap (λ (n : ℕ). take n s) (sym (cell-count (is-array h))) ∙ e
+      ∙ ap (λ (r : ℕ). withFactors (λ f a. over (d .degree) a f) (take (d .columns) (d .factors)) r (arrayOf d)) (sym (h .frame .row-count))
+
 -- ---- opening
 
-pub record Openable (c : Code) : Type 0 where
-  pub degree : badDegree (c .degree) ≡ false
-  pub some-rows : 1 ≤ rows c
-  pub most-rows : rows c ≤ 4
-  pub some-columns : 1 ≤ columns c
-  pub most-columns : columns c ≤ 16
-  pub proper : Proper c
+pub record Openable (D : Description) : Type 0 where
+  pub degree : badDegree (D .code .degree) ≡ false
+  pub some-rows : 1 ≤ rows (D .code)
+  pub most-rows : rows (D .code) ≤ 4
+  pub some-columns : 1 ≤ columns (D .code)
+  pub most-columns : columns (D .code) ≤ 16
+  pub proper : Proper (D .code)
+  pub factors : Factors D
 
-pub passed : (c : Code) → 0 ≡ first (openChecks c) → Openable c
-passed c e =
+pub passed : (D : Description) → 0 ≡ first (openChecks D) → Openable D
+passed D e =
+    let c = D .code in
     let p₁ = clear 0 _ _ e in
     let p₂ = clear 1 _ _ (p₁ .1) in
     let p₃ = clear 2 _ _ (p₂ .1) in
     let p₄ = clear 3 _ _ (p₃ .1) in
     let p₁₈ = clear 17 _ _ (p₄ .1) in
-    let p₆ = clear 5 _ _ (p₁₈ .1) in
+    let p₅ = clear 4 _ _ (p₁₈ .1) in
+    let p₆ = clear 5 _ _ (p₅ .1) in
+    let p₂₃ = clear 22 _ _ (p₆ .1) in
     let r = within 1 4 (rows c) (p₂ .0) in
     let n = within 1 16 (columns c) (p₃ .0) in
     record {
@@ -95,6 +133,10 @@ passed c e =
       some-columns = n .0;
       most-columns = n .1;
       proper = proper c (field (c .degree) (p₁ .0)) (p₄ .0) (p₆ .0);
+      factors = record {
+        count = right-length (columns c) (D .factors) (p₅ .0);
+        symbols = factors-test (c .degree) (D .factors) .0 (p₂₃ .0);
+      };
     }
 
 zeros-zero : (n i : ℕ) → getD (zeros n) i 0 ≡ 0
@@ -120,11 +162,21 @@ front n l h = take-lay l (zeros n) refl refl (omega (arith, length-zeros n))
 zero-behind : (n : ℕ) (l : List ℕ) → ZeroFrom (length l) (lay 0 l (zeros n))
 zero-behind n l i h = getD-lay-above 0 l (zeros n) i (omega arith) ∙ zeros-zero n i
 
-pub code-zero : (c : Code) → Openable c → deskCode (zeroDesk c) ≡ c
-code-zero c p = ap₂ (codeOf (c .degree)) (front 16 (c .points) (p .most-columns)) (front 4 (c .lengths) (p .most-rows))
+pub few-factors : (D : Description) → Openable D → length (D .factors) ≤ 16
+few-factors D p = omega (arith, p .factors .count, p .most-columns)
 
-sound-zero : (c : Code) → Openable c → Sound (zeroDesk c)
-sound-zero c p = let same = code-zero c p in record {
+front-factors : (D : Description) → Openable D → take (columns (D .code)) (lay 0 (D .factors) (zeros 16)) ≡ D .factors
+front-factors D p = rw (← p .factors .count) (front 16 (D .factors) (few-factors D p))
+
+pub described-zero : (D : Description) → Openable D → deskDescription (zeroDesk D) ≡ D
+described-zero D p =
+    let points = front 16 (D .code .points) (p .most-columns) in
+    let factors = front-factors D p in
+    let lengths = front 4 (D .code .lengths) (p .most-rows) in
+    λ i. descriptionOf (D .code .degree) (points i) (factors i) (lengths i)
+
+sound-zero : (D : Description) → Openable D → Sound (zeroDesk D)
+sound-zero D p = let same = described-zero D p in record {
   frame = record {
     degree = p .degree;
     some-rows = p .some-rows;
@@ -132,23 +184,26 @@ sound-zero c p = let same = code-zero c p in record {
     some-columns = p .some-columns;
     most-columns = p .most-columns;
     cells = mul-le-mul (p .most-rows) (p .most-columns);
-    points-size = length-lay 0 (c .points) (zeros 16) ∙ length-zeros 16;
-    lengths-size = length-lay 0 (c .lengths) (zeros 4) ∙ length-zeros 4;
-    column-count = ap columns same;
-    row-count = ap rows same;
-    proper = subst Proper (sym same) (p .proper);
-    unused-points = zero-behind 16 (c .points);
-    unused-lengths = zero-behind 4 (c .lengths);
+    points-size = length-lay 0 (D .code .points) (zeros 16) ∙ length-zeros 16;
+    factors-size = length-lay 0 (D .factors) (zeros 16) ∙ length-zeros 16;
+    lengths-size = length-lay 0 (D .code .lengths) (zeros 4) ∙ length-zeros 4;
+    column-count = ap (λ (E : Description). columns (E .code)) same;
+    factor-count = ap (λ (E : Description). length (E .factors)) same ∙ p .factors .count;
+    row-count = ap (λ (E : Description). rows (E .code)) same;
+    proper = subst (λ (E : Description). Proper (E .code)) (sym same) (p .proper);
+    factors = subst Factors (sym same) (p .factors);
+    unused-points = zero-behind 16 (D .code .points);
+    unused-factors = rw (← p .factors .count) (zero-behind 16 (D .factors));
+    unused-lengths = zero-behind 4 (D .code .lengths);
   };
   array-size = length-zeros 64;
-  symbols = symbols-zeros (c .degree) 64;
+  symbols = symbols-zeros (D .code .degree) 64;
   unused-places = λ i h. zeros-zero 64 i;
 }
 
--- the desk that a refused opening hands over could itself be opened
-spare-passed : Openable spareCode
+pub spare-passed : Openable spare
 unfolding first badDegree outside someOutside outsideField someOutsideField isIn repeated badPoints
-spare-passed = passed spareCode refl
+spare-passed = passed spare refl
 
 -- ---- putting
 
@@ -180,9 +235,9 @@ sound-placed d i s h p =
     }
 
 pub sound : {d : Desk} → Made d → Sound d
-sound (opened c r h) = handed (openChecks c) (zeroDesk c) (zeroDesk spareCode) (meaning (r .outcome), r .desk) h
-    (λ none e. subst Sound (sym e) (sound-zero c (passed c none)))
-    (λ e. subst Sound (sym e) (sound-zero spareCode spare-passed))
+sound (opened D r h) = handed (openChecks D) (zeroDesk D) (zeroDesk spare) (meaning (r .outcome), r .desk) h
+    (λ none e. subst Sound (sym e) (sound-zero D (passed D none)))
+    (λ e. subst Sound (sym e) (sound-zero spare spare-passed))
 sound (put d i s r m h) = handed (putChecks d i s) (placed d i s) d (meaning (r .outcome), r .desk) h
     (λ none e. subst Sound (sym e) (sound-placed d i s (sound m) (puttable d i s none)))
     (λ e. subst Sound (sym e) (sound m))

@@ -1,13 +1,13 @@
--- The desk and its calls: 01, 'The desk'. A promise fixes the outcome and the next desk.
+-- The desk and its calls: 01, 'The desk'; 02, 2026-11, 'Column factors'. A promise fixes the outcome and the next desk.
 --
---   deskCode d, arrayOf d   the code of a desk, and its array of r·n symbols
+--   deskCode d, arrayOf d   the code of a desk, and its array of r·n symbols; deskDescription d, the code with its factors
 --   zeros n                 n zeros
---   zeroDesk c              the desk of the code c with an array of zeros
---   spareCode               the code of the desk that a refused opening hands over
+--   zeroDesk D              the desk of the description D with an array of zeros
+--   spareCode               the code of the desk that a refused opening hands over; spare, its description
 --   openChecks, putChecks   the checks, in order
 --   Hands cs done refused h    h, the outcome's meaning and a desk: `done` where no check of cs applies, `refused` with its number
 --                           where one does
---   Opens c r               opening with the code c hands over r
+--   Opens D r               opening with the description D hands over r
 --   withColumn n i s a      a, of rows of n symbols, with the symbols s, one a row, in column i
 --   withArray d a           the desk with the array a
 --   placed d i s            the desk with the symbols s in column i
@@ -23,7 +23,8 @@ use Rattle.refusal.specs.Refusal.{Check, _when_, badPoints, someOutsideField}
 use Rattle.refusal.specs.Keeping.{Keeps}
 use Rattle.refusal.specs.Meaning.{Meaning, refusal}
 use Rattle.codes.specs.Code.{Code, codeOf, columns, rows}
-use Rattle.codes.specs.Checks.{shapeChecks, wrongLength}
+use Rattle.codes.specs.Factors.{Description, plain}
+use Rattle.codes.specs.Checks.{shapeChecks, badFactors, wrongLength}
 use Rattle.mark.specs.Promises.{meaning}
 use Rattle.mark.specs.declared.Outcome.the-variants.{Done}
 use Rattle.desk.specs.declared.Desk.{Desk}
@@ -33,20 +34,26 @@ use Rattle.desk.specs.declared.Put.{Put}
 abbrev pub deskCode : Desk → Code
 deskCode d = codeOf (d .degree) (take (d .columns) (d .points)) (take (d .rows) (d .lengths))
 
+-- 02, 2026-11: 'The code description, shared by encoder, reader, decoders, tray and desk, gains n factors'
+abbrev pub deskDescription : Desk → Description
+deskDescription d = record { code = deskCode d; factors = take (d .columns) (d .factors) }
+
 abbrev pub arrayOf : Desk → List ℕ
 arrayOf d = take (d .rows * d .columns) (d .array)
 
 unfoldable pub zeros : ℕ → List ℕ
 zeros n = replicate n 0
 
--- 'Opening takes a degree, points and k … and holds an array of zeros.' Places that the code does not use are zero.
-abbrev pub zeroDesk : Code → Desk
-zeroDesk c = record {
-  degree = c .degree;
-  columns = columns c;
-  rows = rows c;
-  points = lay 0 (c .points) (zeros 16);
-  lengths = lay 0 (c .lengths) (zeros 4);
+-- 'Opening takes a degree, points and k … and holds an array of zeros'; the description 'gains n factors'. Places that the code does
+-- not use are zero.
+abbrev pub zeroDesk : Description → Desk
+zeroDesk D = record {
+  degree = D .code .degree;
+  columns = columns (D .code);
+  rows = rows (D .code);
+  points = lay 0 (D .code .points) (zeros 16);
+  factors = lay 0 (D .factors) (zeros 16);
+  lengths = lay 0 (D .code .lengths) (zeros 4);
   array = zeros 64;
 }
 
@@ -54,16 +61,26 @@ zeroDesk c = record {
 abbrev pub spareCode : Code
 spareCode = codeOf 2 (0 ∷ 1 ∷ []) (1 ∷ [])
 
--- 'under checks 1, 2, 3, 4, 6' (18 after 4: 02, 2026-05); '3: count of points is not … (desk: 1 to 16)'
-abbrev pub openChecks : Code → List Check
-openChecks c = shapeChecks 16 c ++ (6 when badPoints (c .degree) (c .points)) ∷ []
+-- 02, 2026-11: 'the zero desk of a refused opening has ones'
+abbrev pub spare : Description
+spare = plain spareCode
+
+-- 'under checks 1, 2, 3, 4, 6' (18 after 4: 02, 2026-05); '3: count of points is not … (desk: 1 to 16)'; 02, 2026-11: 'a missing or
+-- spare factor is 5, at opening a desk too, after 4 and 18; 23, a factor outside the field or zero, after 6'
+abbrev pub openChecks : Description → List Check
+openChecks D =
+    shapeChecks 16 (D .code)
+    ++ (5 when wrongLength (columns (D .code)) (D .factors))
+    ∷ (6 when badPoints (D .code .degree) (D .code .points))
+    ∷ (23 when badFactors (D .code .degree) (D .factors))
+    ∷ []
 
 abbrev pub Hands : (cs : List Check) (done refused : Desk) → Meaning × Desk → Type 0
 Hands cs done refused = Keeps cs (λ k. (refusal k, refused)) (λ h. h ≡ (meaning Done, done))
 
 -- 'a refused opening hands over, beside its number, the zero desk of GF(4) with points 0 1 and k 1'
-abbrev pub Opens : Code → Opened → Type 0
-Opens c r = Hands (openChecks c) (zeroDesk c) (zeroDesk spareCode) (meaning (r .outcome), r .desk)
+abbrev pub Opens : Description → Opened → Type 0
+Opens D r = Hands (openChecks D) (zeroDesk D) (zeroDesk spare) (meaning (r .outcome), r .desk)
 
 -- arrays are row after row: the next row's place is n further on
 unfoldable pub withColumn : ℕ → ℕ → List ℕ → List ℕ → List ℕ
@@ -71,7 +88,15 @@ withColumn n i [] a = a
 withColumn n i (s ∷ ss) a = withColumn n (i + n) ss (set a i s)
 
 abbrev pub withArray : Desk → List ℕ → Desk
-withArray d a = record { degree = d .degree; columns = d .columns; rows = d .rows; points = d .points; lengths = d .lengths; array = a }
+withArray d a = record {
+  degree = d .degree;
+  columns = d .columns;
+  rows = d .rows;
+  points = d .points;
+  factors = d .factors;
+  lengths = d .lengths;
+  array = a;
+}
 
 -- 'it replaces that column and nothing else'
 abbrev pub placed : Desk → ℕ → List ℕ → Desk
@@ -91,5 +116,5 @@ Puts d i s r = Hands (putChecks d i s) (placed d i s) d (meaning (r .outcome), r
 
 -- 'That a desk came from opening and putting is the one premise that a desk call may have.'
 pub data Made : Desk → Type 0 where
-  opened : (c : Code) (r : Opened) → Opens c r → Made (r .desk)
+  opened : (D : Description) (r : Opened) → Opens D r → Made (r .desk)
   put : (d : Desk) (i : ℕ) (s : List ℕ) (r : Put) → Made d → Puts d i s r → Made (r .desk)

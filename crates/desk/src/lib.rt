@@ -5,19 +5,21 @@ mod fit;
 ghost use mathlib.Core.Path.{_≡_};
 ghost use Prim.Native.Nat.{_≤_};
 ghost use lib.ListN.{length, take};
-ghost use Rattle.codes.specs.Code.{codeOf};
+ghost use Rattle.codes.specs.Factors.{descriptionOf};
 ghost use Rattle.desk.specs.Desk.{Made, Opens, Puts, placed, zeroDesk};
 ghost use Rattle.desk.specs.Verdict.{Judges};
 ghost use Rattle.desk.specs.Working.{Placeable};
 use field::tables;
 use mark::Outcome;
 
-// A code and an array of it, row after row. Places of the points, the lengths and the array that the code does not use are zero.
+// A code, a factor for each of its columns, and an array, row after row. Places of the points, the factors, the lengths and the array
+// that the code does not use are zero.
 pub struct Desk {
     pub degree: u32,
     pub columns: usize,
     pub rows: usize,
     pub points: [u8; 16],
+    pub factors: [u8; 16],
     pub lengths: [u8; 4],
     pub array: [u8; 64],
 }
@@ -41,14 +43,17 @@ pub struct Judged {
 }
 
 impl Desk {
-    // The desk of a code with an array of zeros.
-    fn zero(degree: u32, points: &[u8], lengths: &[u8]) -> Self
+    // The desk of a code and its factors with an array of zeros.
+    fn zero(degree: u32, points: &[u8], factors: &[u8], lengths: &[u8]) -> Self
         requires { ⌜ length (now points) ≤ 16 ⌝ }
+        requires { ⌜ length (now factors) ≤ 16 ⌝ }
         requires { ⌜ length (now lengths) ≤ 4 ⌝ }
-        ensures { λ r. ⌜ r ≡ zeroDesk (codeOf degree (now (points .entry)) (now (lengths .entry))) ⌝ }
+        ensures { λ r. ⌜ r ≡ zeroDesk (descriptionOf degree (now (points .entry)) (now (factors .entry)) (now (lengths .entry))) ⌝ }
     {
         let mut xs = [0u8; 16];
         rows::store(points, &mut xs, 0);
+        let mut fs = [0u8; 16];
+        rows::store(factors, &mut fs, 0);
         let mut ks = [0u8; 4];
         rows::store(lengths, &mut ks, 0);
         let array = [0u8; 64];
@@ -57,29 +62,32 @@ impl Desk {
             columns: points.len(),
             rows: lengths.len(),
             points: xs,
+            factors: fs,
             lengths: ks,
             array: array,
         }
     }
 
-    // Opens a desk; refusals 1, 2, 3, 4, 18, 6. A refused opening hands over the zero desk of GF(4) with points 0 1 and k 1.
-    pub fn open(degree: u32, points: &[u8], lengths: &[u8]) -> Opened
-        ensures { λ r. ⌜ Opens (codeOf degree (now (points .entry)) (now (lengths .entry))) r ⌝ }
+    // Opens a desk; refusals 1, 2, 3, 4, 18, 5, 6, 23. A refused opening hands over the zero desk of GF(4) with points 0 1, factors 1 1
+    // and k 1.
+    pub fn open(degree: u32, points: &[u8], factors: &[u8], lengths: &[u8]) -> Opened
+        ensures { λ r. ⌜ Opens (descriptionOf degree (now (points .entry)) (now (factors .entry)) (now (lengths .entry))) r ⌝ }
         ensures { λ r. ⌜ Made (r .desk) ⌝ }
     {
-        let k = checks::open_refusal(degree, points, lengths);
+        let k = checks::open_refusal(degree, points, factors, lengths);
         if k != 0 {
             let xs = [0u8, 1u8];
+            let fs = [1u8, 1u8];
             let ks = [1u8];
             let refused = Outcome::Refused(k);
-            let spare = Desk::zero(2, &xs, &ks);
+            let spare = Desk::zero(2, &xs, &fs, &ks);
             return Opened {
                 outcome: refused,
                 desk: spare,
             };
         }
         let opened = Outcome::Done;
-        let desk = Desk::zero(degree, points, lengths);
+        let desk = Desk::zero(degree, points, factors, lengths);
         Opened {
             outcome: opened,
             desk: desk,
@@ -128,8 +136,8 @@ impl Desk {
         }
     }
 
-    // The number of rows that are not values of a polynomial with at most as many coefficients as the row's length. The desk is
-    // handed back as it was.
+    // The number of rows that, each symbol divided by its column's factor, are not values of a polynomial with at most as many
+    // coefficients as the row's length. The desk is handed back as it was.
     pub fn verdict(self) -> Judged
         requires { ⌜ Made self ⌝ }
         ensures { λ r. ⌜ Judges self r ⌝ }
@@ -139,11 +147,14 @@ impl Desk {
         let n = self.columns;
         let r = self.rows;
         let points = self.points;
+        let factors = self.factors;
         let lengths = self.lengths;
         let array = self.array;
         let cells = r * n;
+        let mut plain = [0u8; 64];
+        factors::divide(degree, &factors[..n], r, &array[..cells], &mut plain);
         let table = tables::lend(degree);
-        let verdict = fit::misfits(&table, degree, &points[..n], &lengths[..r], &array[..cells]);
+        let verdict = fit::misfits(&table, degree, &points[..n], &lengths[..r], &plain[..cells]);
         Judged {
             verdict: verdict,
             desk: self,

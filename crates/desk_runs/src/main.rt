@@ -1,10 +1,12 @@
-// Puts marks together on a desk. Standard input has frames of 32 bytes, one a call:
+// Puts marks together on a desk. Standard input has frames of 53 bytes, one a call:
 //
 //   0        0 for an opening, anything else for a put
 //   1, 2     the degree, or the number of the column, low byte first
 //   3, 4     how many points or symbols there are, at most 20, and how many lengths, at most 7
 //   5 to 24  the points or the symbols
 //   25 to 31 the lengths
+//   32       how many factors there are, at most 20
+//   33 to 52 the factors
 //
 // Each call gives a line: `done`, or `!` and the refusal's number, and the verdict on the desk that was handed over. What it
 // writes is held to the answers of another program (tests/second).
@@ -53,14 +55,15 @@ fn count(n: u8, most: usize) -> usize
 // Makes the call of a frame, and hands the next desk back.
 fn step(desk: Desk, frame: &[u8]) -> Desk
     requires { ⌜ Made desk ⌝ }
-    requires { ⌜ length (now frame) ≡ 32 ⌝ }
+    requires { ⌜ length (now frame) ≡ 53 ⌝ }
     ensures { λ r. ⌜ Made r ⌝ }
 {
     let x = number(frame[1], frame[2]);
     let n = count(frame[3], 20);
     let k = count(frame[4], 7);
+    let f = count(frame[32], 20);
     if frame[0] == 0 {
-        let opened = Desk::open(x, &frame[5..5 + n], &frame[25..25 + k]);
+        let opened = Desk::open(x, &frame[5..5 + n], &frame[33..33 + f], &frame[25..25 + k]);
         let outcome = opened.outcome;
         let next = opened.desk;
         return show(outcome, next);
@@ -73,13 +76,14 @@ fn step(desk: Desk, frame: &[u8]) -> Desk
 
 fn main() {
     let xs = [0u8];
+    let fs = [1u8];
     let ks = [1u8];
-    let opened = Desk::open(2, &xs, &ks);
+    let opened = Desk::open(2, &xs, &fs, &ks);
     let mut desk = opened.desk;
     let mut turns = u64::MAX;
     while turns > 0 {
-        let mut frame = [0u8; 32];
-        if io::read_full(STDIN_FILENO, &mut frame) < 32 {
+        let mut frame = [0u8; 53];
+        if io::read_full(STDIN_FILENO, &mut frame) < 53 {
             return;
         }
         desk = step(desk, &frame);

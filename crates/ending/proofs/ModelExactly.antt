@@ -3,37 +3,32 @@
 --   ends-exactly   a decoding ends so exactly when the model decides so
 --   exactly-one    there is an outcome, and there is no other
 -- Assumes nothing.
-use mathlib.Core.Path.{_≡_, sym, subst}
+use mathlib.Core.Path.{_≡_, subst}
 use mathlib.Core.Logic.{_↔_}
 use mathlib.Core.List.{List}
 use Prim.Native.Nat.{ℕ}
-use Rattle.refusal.specs.Refusal.{first}
 use Rattle.codes.specs.Code.{Code}
-use Rattle.codes.specs.Checks.{decodeChecks}
-use Rattle.codes.proofs.Passed.{PassedDecoding, decoding}
+use Rattle.codes.proofs.Passed.{PassedDecoding}
 use Rattle.ending.specs.Endings.{Buffers, Ends}
 use Rattle.ending.proofs.Unique.{unique}
 use Rattle.ending.proofs.Model.{Outcome, decided}
 use Rattle.ending.proofs.ModelEnds.{model-ends}
 
 module _ (c : Code) (τ : ℕ) (y w : List ℕ) (lent : Buffers)
-    (passes : first (decodeChecks c τ y (lent .array) (lent .flags) w) ≡ 0)
+    (given : PassedDecoding c τ y (lent .array) (lent .flags) w)
   where
     abbrev EndsAs : Outcome → Type 0
     EndsAs o = Ends c y τ lent (o .0) (o .1)
 
-    given : PassedDecoding c τ y (lent .array) (lent .flags) w
-    given = decoding c τ y (lent .array) (lent .flags) w (sym passes)
-
     decided-ends : EndsAs (decided c y τ lent)
-    decided-ends = model-ends (given .proper) (given .received) τ (given .limit) lent
+    decided-ends = model-ends (given .array .proper) (given .array .received) τ (given .limit) lent
 
     pub ends-exactly : (o : Outcome) → EndsAs o ↔ (decided c y τ lent ≡ o)
     ends-exactly o = (to, λ e. subst EndsAs e decided-ends)
       where
         to : EndsAs o → decided c y τ lent ≡ o
         to h i =
-            let (e, b) = unique (given .proper) (given .received) τ (given .limit)
+            let (e, b) = unique (given .array .proper) (given .array .received) τ (given .limit)
             (decided c y τ lent .0)
             (o .0)
             lent

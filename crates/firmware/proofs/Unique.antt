@@ -8,7 +8,7 @@ use mathlib.Core.Path.{_≡_, sym, ap, _∙_}
 use mathlib.Core.List.{List}
 use Prim.Native.Nat.{ℕ}
 use Rattle.refusal.specs.Meaning.{Meaning, packed}
-use Rattle.codes.specs.Code.{Code}
+use Rattle.codes.specs.Factors.{Description}
 use Rattle.mark.specs.Promises.{meaning, left, Left, Encodes, Reads}
 use Rattle.mark.specs.declared.Outcome.{Outcome}
 use Rattle.mark.proofs.Promised.{meaning-faithful}
@@ -36,18 +36,18 @@ module _ {E B : Type 0} (means : E → Meaning) (Keeps : E → B → Type 0)
 parts : {o o′ : Outcome} {b b′ : List ℕ} → left o b ≡ left o′ b′ → (o ≡ o′) × (b ≡ b′)
 parts {o} {o′} e = (meaning-faithful o o′ (ap (λ (x : Left). x .outcome) e), ap (λ (x : Left). x .buffer) e)
 
-pub mark-encode : (c : Code) (m lent : List ℕ) {r r′ : ℕ} {b b′ : List ℕ}
-    → Returns meaning (λ (o : Outcome). Encodes c m lent (left o b)) r
-    → Returns meaning (λ (o : Outcome). Encodes c m lent (left o b′)) r′ → (r ≡ r′) × (b ≡ b′)
-mark-encode c m lent =
-    returns-unique meaning (λ (o : Outcome) (b : List ℕ). Encodes c m lent (left o b))
-    (λ o o′ b b′ h h′. parts (encodes-unique c m lent (left o b) (left o′ b′) h h′))
+pub mark-encode : (D : Description) (m lent : List ℕ) {r r′ : ℕ} {b b′ : List ℕ}
+    → Returns meaning (λ (o : Outcome). Encodes D m lent (left o b)) r
+    → Returns meaning (λ (o : Outcome). Encodes D m lent (left o b′)) r′ → (r ≡ r′) × (b ≡ b′)
+mark-encode D m lent =
+    returns-unique meaning (λ (o : Outcome) (b : List ℕ). Encodes D m lent (left o b))
+    (λ o o′ b b′ h h′. parts (encodes-unique D m lent (left o b) (left o′ b′) h h′))
 
-pub mark-read : (c : Code) (a lent : List ℕ) {r r′ : ℕ} {b b′ : List ℕ} → Returns meaning (λ (o : Outcome). Reads c a lent (left o b)) r
-    → Returns meaning (λ (o : Outcome). Reads c a lent (left o b′)) r′ → (r ≡ r′) × (b ≡ b′)
-mark-read c a lent =
-    returns-unique meaning (λ (o : Outcome) (b : List ℕ). Reads c a lent (left o b))
-    (λ o o′ b b′ h h′. parts (reads-unique c a lent (left o b) (left o′ b′) h h′))
+pub mark-read : (D : Description) (a lent : List ℕ) {r r′ : ℕ} {b b′ : List ℕ} → Returns meaning (λ (o : Outcome). Reads D a lent (left o b)) r
+    → Returns meaning (λ (o : Outcome). Reads D a lent (left o b′)) r′ → (r ≡ r′) × (b ≡ b′)
+mark-read D a lent =
+    returns-unique meaning (λ (o : Outcome) (b : List ℕ). Reads D a lent (left o b))
+    (λ o o′ b b′ h h′. parts (reads-unique D a lent (left o b) (left o′ b′) h h′))
 
 -- what a decoding leaves in the buffers lent to it
 abbrev pub Kept : Type 0

@@ -2,7 +2,7 @@
 ghost use mathlib.Core.Path.{_≡_};
 ghost use Rattle.refusal.specs.Meaning.{packed};
 ghost use Rattle.firmware.specs.Returns.{Returns};
-ghost use Rattle.codes.specs.Code.{codeOf};
+ghost use Rattle.codes.specs.Factors.{descriptionOf};
 ghost use Rattle.mark.specs.Promises.{Encodes, Reads, left, meaning};
 ghost use Rattle.ending.specs.Endings.{meaning as endingMeaning};
 ghost use Rattle.joint.specs.Promises.{Decodes, buffers, given, left as ended};
@@ -35,34 +35,36 @@ fn pack(ending: Ending) -> u32
     }
 }
 
-// Writes the code array of a message.
+// Writes what is struck for a message.
 #[no_mangle]
 pub extern "C" fn gren_mark_encode(
     degree: u32,
     lengths: &[u8],
     points: &[u8],
+    factors: &[u8],
     message: &[u8],
     array: &mut [u8],
 ) -> u32
-    ensures { λ r. ⌜ Returns meaning (λ o. Encodes (codeOf degree (now (points .entry)) (now (lengths .entry))) (now (message .entry))
+    ensures { λ r. ⌜ Returns meaning (λ o. Encodes (descriptionOf degree (now (points .entry)) (now (factors .entry)) (now (lengths .entry))) (now (message .entry))
         (now (array .entry)) (left o (now (array .exit)))) r ⌝ }
 {
-    number(mark::encode(degree, lengths, points, message, array))
+    number(mark::encode(degree, lengths, points, factors, message, array))
 }
 
-// Writes the message of a code array.
+// Writes the message for which an array was struck.
 #[no_mangle]
 pub extern "C" fn gren_mark_read(
     degree: u32,
     lengths: &[u8],
     points: &[u8],
+    factors: &[u8],
     array: &[u8],
     message: &mut [u8],
 ) -> u32
-    ensures { λ r. ⌜ Returns meaning (λ o. Reads (codeOf degree (now (points .entry)) (now (lengths .entry))) (now (array .entry))
+    ensures { λ r. ⌜ Returns meaning (λ o. Reads (descriptionOf degree (now (points .entry)) (now (factors .entry)) (now (lengths .entry))) (now (array .entry))
         (now (message .entry)) (left o (now (message .exit)))) r ⌝ }
 {
-    number(mark::read(degree, lengths, points, array, message))
+    number(mark::read(degree, lengths, points, factors, array, message))
 }
 
 // Decodes a received array up to the trial limit.
@@ -71,6 +73,7 @@ pub extern "C" fn gren_mark_decode(
     degree: u32,
     lengths: &[u8],
     points: &[u8],
+    factors: &[u8],
     limit: u32,
     received: &[u8],
     answer: &mut [u8],
@@ -78,7 +81,7 @@ pub extern "C" fn gren_mark_decode(
     space: &mut [u8],
 ) -> u32
     ensures { λ r. ⌜ Returns endingMeaning (λ e. Decodes
-        (given (codeOf degree (now (points .entry)) (now (lengths .entry))) limit (now (received .entry))
+        (given (descriptionOf degree (now (points .entry)) (now (factors .entry)) (now (lengths .entry))) limit (now (received .entry))
         (buffers (now (answer .entry)) (now (flags .entry))) (now (space .entry)))
         (ended e (buffers (now (answer .exit)) (now (flags .exit))) (now (space .exit)))) r ⌝ }
 {
@@ -86,6 +89,7 @@ pub extern "C" fn gren_mark_decode(
         degree,
         lengths,
         points,
+        factors,
         limit,
         received,
         answer,
@@ -100,6 +104,7 @@ pub extern "C" fn gren_mark_decode_lost(
     degree: u32,
     lengths: &[u8],
     points: &[u8],
+    factors: &[u8],
     limit: u32,
     lost: &[u8],
     received: &[u8],
@@ -108,7 +113,7 @@ pub extern "C" fn gren_mark_decode_lost(
     space: &mut [u8],
 ) -> u32
     ensures { λ r. ⌜ Returns endingMeaning (λ e. DecodesLost (now (lost .entry))
-        (given (codeOf degree (now (points .entry)) (now (lengths .entry))) limit (now (received .entry))
+        (given (descriptionOf degree (now (points .entry)) (now (factors .entry)) (now (lengths .entry))) limit (now (received .entry))
         (buffers (now (answer .entry)) (now (flags .entry))) (now (space .entry)))
         (ended e (buffers (now (answer .exit)) (now (flags .exit))) (now (space .exit)))) r ⌝ }
 {
@@ -116,6 +121,7 @@ pub extern "C" fn gren_mark_decode_lost(
         degree,
         lengths,
         points,
+        factors,
         limit,
         lost,
         received,

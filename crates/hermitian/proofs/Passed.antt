@@ -11,7 +11,7 @@ use mathlib.Core.Bool.{false}
 use mathlib.Core.List.{List, _++_}
 use Prim.Native.Nat.{ℕ, _*_, _≤_}
 use lib.Dec.{ltb}
-use lib.ListN.{length}
+use lib.ListN.{length, length-replicate}
 use borrow.Author.Tests.{ltb-false, le-ltb}
 use Rattle.refusal.specs.Refusal.{Check, first, outside, someOutsideField}
 use Rattle.refusal.proofs.Ladders.{miss, clear}
@@ -20,13 +20,15 @@ use Rattle.poly.specs.Poly.{All}
 use Rattle.codes.specs.Code.{Code, rows, columns, total, IsMessage}
 use Rattle.codes.specs.Checks.{unchecked, codeChecks, wrongLength, spaceBytes, remainingChecks}
 use Rattle.codes.specs.Checks as Mark
+use Rattle.codes.specs.Factors.{ones, plain}
 use Rattle.codes.proofs.Proper.{neither, symbols-test, lengths-test, message}
 use Rattle.codes.proofs.Passed.{right-length, is-right, Counts}
 use Rattle.codes.proofs.Lost.{Remains, remains}
+use Rattle.codes.proofs.Factors.{each-one, ones-pass}
 use Rattle.hermitian.specs.Ring.{ringLengths, ringCode, IsRing}
 use Rattle.hermitian.specs.Checks.{badSize, badOrder, ringChecks, bufferChecks, encodeChecks, readChecks, wordChecks, lostChecks}
 use Rattle.hermitian.proofs.Numbers.{length-numbers}
-use Rattle.hermitian.proofs.Sizes.{tested, ring-cells, ring-counts}
+use Rattle.hermitian.proofs.Sizes.{tested, ring-cells, ring-counts, ring-proper}
 
 pub record Passed (q m : ℕ) : Type 0 where
   pub size : badSize q ≡ false
@@ -146,39 +148,54 @@ module _ {q m : ℕ} (p : Passed q m) where
   right-columns : (f : List ℕ) → length f ≡ q * q → wrongLength (columns (ringCode q m)) f ≡ false
   right-columns f e = is-right _ f (e ∙ sym (length-numbers (q * q)))
 
+  -- 'Rings keep factors of one'
+  right-factors : wrongLength (columns (ringCode q m)) (ones (columns (ringCode q m))) ≡ false
+  right-factors = is-right _ (ones (columns (ringCode q m))) (length-replicate (columns (ringCode q m)) 1)
+
+  no-bad-factor : Mark.badFactors q (ones (columns (ringCode q m))) ≡ false
+  no-bad-factor = ones-pass q (ring-proper q m (p .size) (p .order) .field) (ones (columns (ringCode q m))) (each-one (columns (ringCode q m)))
+
   -- a message and an array of the right lengths, the symbols s being the input
   buffers-pass : (f a s : List ℕ) → length f ≡ total (ringLengths q m) → length a ≡ q * q * q → All (IsSymbol q) s
-      → first (codeChecks (ringCode q m) ++ Mark.bufferChecks (ringCode q m) f a s) ≡ 0
+      → first (codeChecks (ringCode q m) ++ Mark.bufferChecks (plain (ringCode q m)) f a s) ≡ 0
   buffers-pass f a s l k i =
-      onward (Mark.bufferChecks (ringCode q m) f a s)
-      ∙ miss 5 _ _ (neither (wrongLength (total (ringLengths q m)) f) _ .1 (is-right _ f l, right-cells a k))
+      onward (Mark.bufferChecks (plain (ringCode q m)) f a s)
+      ∙ miss 5 _ _ (neither _ (wrongLength _ (ones (columns (ringCode q m)))) .1 (
+        neither (wrongLength (total (ringLengths q m)) f) _ .1 (is-right _ f l, right-cells a k),
+        right-factors,
+      ))
       ∙ miss 6 _ _ (tested q (p .size) .points)
+      ∙ miss 23 _ _ no-bad-factor
       ∙ miss 7 _ _ (symbols-test q s .1 i)
       ∙ unfold first in refl
 
 pub to-encode : {q m : ℕ} {f w : List ℕ} → PassedEncoding q m f w → (a : List ℕ) → length a ≡ q * q * q
-    → first (Mark.encodeChecks (ringCode q m) f a) ≡ 0
+    → first (Mark.encodeChecks (plain (ringCode q m)) f a) ≡ 0
 to-encode {f = f} p a k = buffers-pass (p .ring) f a f (p .message .count) k (p .message .symbols)
 
 pub to-read : {q m : ℕ} {w f : List ℕ} → PassedReading q m w f → (a : List ℕ) → IsRing q a
-    → first (Mark.readChecks (ringCode q m) a f) ≡ 0
+    → first (Mark.readChecks (plain (ringCode q m)) a f) ≡ 0
 to-read {f = f} p a h = buffers-pass (p .ring) f a a (p .message) (h .count) (h .symbols)
 
 -- 1 to 7 of decoding the array do not apply
 pub to-array : {q m : ℕ} → Passed q m → (a b f s : List ℕ) → IsRing q a → length b ≡ q * q * q → length f ≡ q * q → spaceBytes ≤ length s
-    → (ds : List Check) → first (Mark.arrayChecks (ringCode q m) a b f s ++ ds) ≡ first ds
+    → (ds : List Check) → first (Mark.arrayChecks (plain (ringCode q m)) a b f s ++ ds) ≡ first ds
 to-array {q} {m} p a b f s h k l z ds =
     onward p _
-    ∙ miss 5 _ _ (neither _ (ltb (length s) spaceBytes) .1 (
-      neither _ (wrongLength (columns (ringCode q m)) f) .1 (
-        neither (wrongLength (rows (ringCode q m) * columns (ringCode q m)) a) _ .1 (right-cells p a (h .count), right-cells p b k),
-        right-columns p f l,
+    ∙ miss 5 _ _ (neither _ (wrongLength _ (ones (columns (ringCode q m)))) .1 (
+      neither _ (ltb (length s) spaceBytes) .1 (
+        neither _ (wrongLength (columns (ringCode q m)) f) .1 (
+          neither (wrongLength (rows (ringCode q m) * columns (ringCode q m)) a) _ .1 (right-cells p a (h .count), right-cells p b k),
+          right-columns p f l,
+        ),
+        le-ltb (length s) spaceBytes z,
       ),
-      le-ltb (length s) spaceBytes z,
+      right-factors p,
     ))
     ∙ miss 6 _ _ (tested q (p .size) .points)
+    ∙ miss 23 _ _ (no-bad-factor p)
     ∙ miss 7 _ _ (symbols-test q a .1 (h .symbols))
 
 pub to-lose : {q m τ : ℕ} {L y w f s : List ℕ} → PassedLost q m τ L y w f s → (a b : List ℕ) → IsRing q a → length b ≡ q * q * q
-    → first (Mark.lostChecks (ringCode q m) τ L a b f s) ≡ 0
+    → first (Mark.lostChecks (plain (ringCode q m)) τ L a b f s) ≡ 0
 to-lose {f = f} {s = s} p a b h k = to-array (p .word .ring) a b f s h k (p .word .flags) (p .word .space) _ ∙ sym (p .rest)

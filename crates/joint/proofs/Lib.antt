@@ -1,9 +1,10 @@
 pub mod Decisions
 pub mod Blank
+pub mod Struck
 pub mod Lost
 pub mod Halves
 pub mod Promised
 pub mod Unique
 pub mod Demands
 pub mod LostDemands
-pub mod Shifted
+pub mod Plain

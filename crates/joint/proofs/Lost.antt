@@ -52,12 +52,14 @@ pub rest-passed : {c : Code} {τ : ℕ} {L y : List ℕ} → ReadyLost c τ L y 
     → length a ≡ rows c * columns (core c L) → length f ≡ columns (core c L) → spaceBytes ≤ length w
     → PassedDecoding (core c L) τ (coreOf c L y) a f w
 rest-passed {c} {τ} {L} r a f w answer flags space = record {
-  counts = core-counts c L (r .proper) (r .remain .enough) (r .counts);
-  proper = core-proper c L (r .proper) (r .remain .enough);
-  received = core-array c L (r .received);
-  answer = answer;
-  flags = flags;
-  space = space;
+  array = record {
+    counts = core-counts c L (r .proper) (r .remain .enough) (r .counts);
+    proper = core-proper c L (r .proper) (r .remain .enough);
+    received = core-array c L (r .received);
+    answer = answer;
+    flags = flags;
+    space = space;
+  };
   limit = r .remain .limit;
 }
 

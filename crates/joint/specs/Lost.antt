@@ -14,7 +14,7 @@ use Rattle.codes.specs.Checks.{lostChecks}
 use Rattle.ending.specs.Endings.{Buffers, Corrects, Ends}
 use Rattle.ending.specs.declared.Ending.{Ending}
 use Rattle.ending.specs.declared.Ending.the-variants.{Refused, Corrected, Nothing, Several, Hollow}
-use Rattle.joint.specs.Promises.{Given, Left, Decoding}
+use Rattle.joint.specs.Promises.{Given, Left, Decoding, Struck}
 
 -- 'On "corrected" the lost columns are filled from the rows found, their flags are 2, and the detail counts wrong columns among
 -- the rest': the rows found are those of the message m of the remaining columns
@@ -33,7 +33,8 @@ LostEnds c L y τ lent (Several t) left = Ends (core c L) (coreOf c L y) τ lent
 LostEnds c L y τ lent (Hollow t) left = Ends (core c L) (coreOf c L y) τ lent (Hollow t) left
 
 abbrev pub checksLost : List ℕ → Given → List Check
-checksLost L g = lostChecks (g .code) (g .limit) L (g .received) (g .lent .array) (g .lent .flags) (g .space)
+checksLost L g = lostChecks (g .description) (g .limit) L (g .received) (g .lent .array) (g .lent .flags) (g .space)
 
 abbrev pub DecodesLost : List ℕ → Given → Left → Type 0
-DecodesLost L g = Decoding (checksLost L g) (g .lent) (g .space) (LostEnds (g .code) L (g .received) (g .limit) (g .lent))
+DecodesLost L g = Decoding (checksLost L g) (g .lent) (g .space)
+    (Struck (g .description) (g .received) (λ y. LostEnds (g .description .code) L y (g .limit) (g .lent)))

@@ -1,10 +1,13 @@
 -- What a decoding promises: 01, 'Locators and endings'.
 --
---   Given             what a decoding is given: the code, the trial limit, the received array, the buffers and the space lent
+--   Given             what a decoding is given: the code description, the trial limit, the received array, the buffers and the space
+--                     lent
 --   Left              what it leaves: its ending, the buffers and the space
 --   buffers, given, left    these of their parts
 --   cleared w         a working space after a call that is not refused
 --   Decoding cs lent space E l    what every decoding promises, with its checks and its table of endings
+--   onCorrected f e b the buffers b, on 'corrected' with f of their array
+--   Struck D y E e left    the quotient of y ends as e by the table E, and its answer is multiplied back to left
 --   checksOf g        the checks of the decoding of g
 --   Decodes g l       the decoding of g leaves l
 use mathlib.Core.Path.{_≡_}
@@ -13,14 +16,14 @@ use Prim.Native.Nat.{ℕ}
 use lib.ListN.{drop, replicate}
 use Rattle.refusal.specs.Refusal.{Check}
 use Rattle.refusal.specs.Keeping.{Keeps}
-use Rattle.codes.specs.Code.{Code}
+use Rattle.codes.specs.Factors.{Description, divided, multiplied}
 use Rattle.codes.specs.Checks.{spaceBytes, decodeChecks}
 use Rattle.ending.specs.Endings.{Buffers, Ends}
 use Rattle.ending.specs.declared.Ending.{Ending}
-use Rattle.ending.specs.declared.Ending.the-variants.{Refused}
+use Rattle.ending.specs.declared.Ending.the-variants.{Refused, Corrected, Nothing, Several, Hollow}
 
 pub record Given : Type 0 where
-  pub code : Code
+  pub description : Description
   pub limit : ℕ
   pub received : List ℕ
   pub lent : Buffers
@@ -34,8 +37,8 @@ pub record Left : Type 0 where
 abbrev pub buffers : (array flags : List ℕ) → Buffers
 buffers a f = record { array = a; flags = f }
 
-abbrev pub given : (c : Code) (limit : ℕ) (received : List ℕ) (lent : Buffers) (space : List ℕ) → Given
-given c τ y b w = record { code = c; limit = τ; received = y; lent = b; space = w }
+abbrev pub given : (D : Description) (limit : ℕ) (received : List ℕ) (lent : Buffers) (space : List ℕ) → Given
+given D τ y b w = record { description = D; limit = τ; received = y; lent = b; space = w }
 
 abbrev pub left : (ending : Ending) (buffers : Buffers) (space : List ℕ) → Left
 left e b w = record { ending = e; buffers = b; space = w }
@@ -49,8 +52,23 @@ abbrev pub Decoding : (cs : List Check) (lent : Buffers) (space : List ℕ) (E :
 Decoding cs lent space E =
     Keeps cs (λ k. left (Refused k) lent space) (λ l. E (l .ending) (l .buffers) × (l .space ≡ cleared space))
 
+abbrev pub onCorrected : (List ℕ → List ℕ) → Ending → Buffers → Buffers
+onCorrected f (Corrected w) b = record { array = f (b .array); flags = b .flags }
+onCorrected f (Refused k) b = b
+onCorrected f Nothing b = b
+onCorrected f (Several t) b = b
+onCorrected f (Hollow t) b = b
+
+-- 02, 2026-11: 'In the locators … y is the symbol divided by its column's factor, and the answer's rows are the quotients' values
+-- times the factors': E is the table of the quotient's endings
+pub record Struck (D : Description) (y : List ℕ) (E : List ℕ → Ending → Buffers → Type 0) (e : Ending) (left : Buffers) : Type 0 where
+  pub answer : Buffers
+  pub ends : E (divided D y) e answer
+  pub back : left ≡ onCorrected (multiplied D) e answer
+
 abbrev pub checksOf : Given → List Check
-checksOf g = decodeChecks (g .code) (g .limit) (g .received) (g .lent .array) (g .lent .flags) (g .space)
+checksOf g = decodeChecks (g .description) (g .limit) (g .received) (g .lent .array) (g .lent .flags) (g .space)
 
 abbrev pub Decodes : Given → Left → Type 0
-Decodes g = Decoding (checksOf g) (g .lent) (g .space) (Ends (g .code) (g .received) (g .limit) (g .lent))
+Decodes g = Decoding (checksOf g) (g .lent) (g .space)
+    (Struck (g .description) (g .received) (λ y. Ends (g .description .code) y (g .limit) (g .lent)))

@@ -2,16 +2,25 @@
 mod ends;
 
 ghost use mathlib.Core.Path.{_≡_};
+ghost use mathlib.Core.Bool.{true};
+ghost use mathlib.Core.List.{List};
+ghost use Prim.Native.Nat.{ℕ};
 ghost use lib.ListN.{length, take};
+ghost use Rattle.field.specs.Symbols.{times};
+ghost use Rattle.poly.specs.Poly.{All};
 ghost use Rattle.codes.specs.Code.{codeOf, columns};
+ghost use Rattle.codes.specs.Factors.{descriptionOf, withFactors};
 ghost use Rattle.codes.specs.Lost.{core};
 ghost use Rattle.codes.specs.Checks.{spaceBytes};
 ghost use Rattle.codes.proofs.Passed.{PassedDecoding};
+ghost use Rattle.codes.proofs.Factors.{Factors};
+ghost use Rattle.factors.specs.Working.{Striking};
 ghost use Rattle.ending.specs.Endings.{Ends};
-ghost use Rattle.joint.specs.Promises.{Decodes, buffers, given, left};
+ghost use Rattle.ending.specs.declared.Ending.the-variants.{Corrected};
+ghost use Rattle.joint.specs.Promises.{Decodes, buffers, given, left, onCorrected};
 ghost use Rattle.joint.specs.Lost.{DecodesLost, LostEnds};
 ghost use Rattle.finish.specs.Working.{released};
-ghost use Rattle.joint.specs.Working.{Blank, ReadyLost, RestEnds};
+ghost use Rattle.joint.specs.Working.{Blank, ReadyLost, RestEnds, StruckEnds};
 use array_checks::SPACE;
 use ending::Ending;
 use field::tables;
@@ -75,47 +84,6 @@ fn work(
     );
     rows::clear(space, 0, SPACE);
     ending
-}
-
-// Decodes a received array jointly: refusals 1 to 8, 18 behind 4, which touch nothing; else the ending, on `corrected` with the
-// answer and the flags of its wrong columns written, and in every case with the first 49,152 bytes of the working space zero.
-pub fn decode(
-    degree: u32,
-    lengths: &[u8],
-    points: &[u8],
-    limit: u32,
-    received: &[u8],
-    answer: &mut [u8],
-    flags: &mut [u8],
-    space: &mut [u8],
-) -> Ending
-    ensures { λ r. ⌜ Decodes
-        (given (codeOf degree (now (points .entry)) (now (lengths .entry))) limit (now (received .entry)) (buffers (now (answer .entry)) (now (flags .entry))) (now (space .entry)))
-        (left r (buffers (now (answer .exit)) (now (flags .exit))) (now (space .exit))) ⌝ }
-{
-    let k = array_checks::decode_refusal(
-        degree,
-        lengths,
-        points,
-        limit,
-        received,
-        answer.len(),
-        flags.len(),
-        space.len(),
-    );
-    if k != 0 {
-        return Ending::Refused(k);
-    }
-    work(
-        degree,
-        lengths,
-        points,
-        limit,
-        received,
-        answer,
-        flags,
-        &mut space[..SPACE],
-    )
 }
 
 // How the decoding of the remaining columns ends; on `corrected` with the flags of the wrong ones at the front of `wrong`.
@@ -204,10 +172,8 @@ fn work_lost(
     ending
 }
 
-// Decodes a received array of which some columns are lost: refusals 1 to 7, 18 behind 4, 16, 17 and 8, which touch nothing; else
-// the ending of the array of the remaining columns, on `corrected` with the whole answer and its flags written, 2 at the lost
-// columns, and in every case with the first 49,152 bytes of the working space zero.
-pub fn decode_lost(
+// Decodes, for a call that passed its checks, with whatever columns lost.
+fn work_plain(
     degree: u32,
     lengths: &[u8],
     points: &[u8],
@@ -218,24 +184,12 @@ pub fn decode_lost(
     flags: &mut [u8],
     space: &mut [u8],
 ) -> Ending
-    ensures { λ r. ⌜ DecodesLost (now (lost .entry))
-        (given (codeOf degree (now (points .entry)) (now (lengths .entry))) limit (now (received .entry)) (buffers (now (answer .entry)) (now (flags .entry))) (now (space .entry)))
-        (left r (buffers (now (answer .exit)) (now (flags .exit))) (now (space .exit))) ⌝ }
+    requires { ⌜ ReadyLost (codeOf degree (now points) (now lengths)) limit (now lost) (now received) × (length (now space) ≡ spaceBytes) ⌝ }
+    requires { ⌜ (length (now answer) ≡ length (now received)) × (length (now flags) ≡ length (now points)) ⌝ }
+    ensures { λ r. ⌜ LostEnds (codeOf degree (now (points .entry)) (now (lengths .entry))) (now (lost .entry)) (now (received .entry)) limit
+        (buffers (now (answer .entry)) (now (flags .entry))) r (buffers (now (answer .exit)) (now (flags .exit)))
+        × Blank (now (space .exit)) ⌝ }
 {
-    let k = array_checks::lost_refusal(
-        degree,
-        lengths,
-        points,
-        limit,
-        lost,
-        received,
-        answer.len(),
-        flags.len(),
-        space.len(),
-    );
-    if k != 0 {
-        return Ending::Refused(k);
-    }
     if lost.len() == 0 {
         return work(
             degree,
@@ -245,7 +199,7 @@ pub fn decode_lost(
             received,
             answer,
             flags,
-            &mut space[..SPACE],
+            space,
         );
     }
     work_lost(
@@ -257,6 +211,161 @@ pub fn decode_lost(
         received,
         answer,
         flags,
+        space,
+    )
+}
+
+// Multiplies the answer, of r rows, by the factors, on `corrected` alone.
+fn strike(ending: Ending, degree: u32, factors: &[u8], r: usize, answer: &mut [u8])
+    requires { ⌜ ((w : ℕ) → ending ≡ Corrected w → Striking degree (now factors) r (now answer)) ⌝ }
+    ensures { λ _. ⌜ ((f : List ℕ) → buffers (now (answer .exit)) f
+        ≡ onCorrected (withFactors (times degree) (now (factors .entry)) r) ending (buffers (now (answer .entry)) f)) ⌝ }
+{
+    match ending {
+        Ending::Refused(_) => {}
+        Ending::Corrected(_) => {
+            factors::multiply(degree, factors, r, answer);
+        }
+        Ending::Nothing => {}
+        Ending::Several(_) => {}
+        Ending::Hollow(_) => {}
+    }
+}
+
+// Decodes what was struck with these factors, for a call that passed its checks: the quotient, with the answer multiplied back. Where
+// all factors are known to be one there is nothing to divide.
+fn work_struck(
+    degree: u32,
+    lengths: &[u8],
+    points: &[u8],
+    factors: &[u8],
+    ones: bool,
+    limit: u32,
+    lost: &[u8],
+    received: &[u8],
+    answer: &mut [u8],
+    flags: &mut [u8],
+    space: &mut [u8],
+) -> Ending
+    requires { ⌜ ReadyLost (codeOf degree (now points) (now lengths)) limit (now lost) (now received) × (length (now space) ≡ spaceBytes) ⌝ }
+    requires { ⌜ (length (now answer) ≡ length (now received)) × (length (now flags) ≡ length (now points)) ⌝ }
+    requires { ⌜ Factors (descriptionOf degree (now points) (now factors) (now lengths)) ⌝ }
+    requires { ⌜ (ones ≡ true → All (λ (f : ℕ). f ≡ 1) (now factors)) ⌝ }
+    ensures { λ r. ⌜ StruckEnds (descriptionOf degree (now (points .entry)) (now (factors .entry)) (now (lengths .entry))) (now (lost .entry))
+        (now (received .entry)) limit (buffers (now (answer .entry)) (now (flags .entry))) r
+        (buffers (now (answer .exit)) (now (flags .exit))) × Blank (now (space .exit)) ⌝ }
+{
+    if ones {
+        return work_plain(
+            degree,
+            lengths,
+            points,
+            limit,
+            lost,
+            received,
+            answer,
+            flags,
+            space,
+        );
+    }
+    let mut plain = [0u8; 384];
+    factors::divide(degree, factors, lengths.len(), received, &mut plain);
+    let ending = work_plain(
+        degree,
+        lengths,
+        points,
+        limit,
+        lost,
+        &plain[..received.len()],
+        answer,
+        flags,
+        space,
+    );
+    strike(ending, degree, factors, lengths.len(), answer);
+    ending
+}
+
+// Decodes a received array of which some columns are lost: refusals 1 to 7, 18 behind 4 and 23 behind 6, 16, 17 and 8, which touch
+// nothing; else the ending of the array of the remaining columns, on `corrected` with the whole answer and its flags written, 2 at
+// the lost columns, and in every case with the first 49,152 bytes of the working space zero.
+pub fn decode_lost(
+    degree: u32,
+    lengths: &[u8],
+    points: &[u8],
+    factors: &[u8],
+    limit: u32,
+    lost: &[u8],
+    received: &[u8],
+    answer: &mut [u8],
+    flags: &mut [u8],
+    space: &mut [u8],
+) -> Ending
+    ensures { λ r. ⌜ DecodesLost (now (lost .entry))
+        (given (descriptionOf degree (now (points .entry)) (now (factors .entry)) (now (lengths .entry))) limit (now (received .entry))
+        (buffers (now (answer .entry)) (now (flags .entry))) (now (space .entry)))
+        (left r (buffers (now (answer .exit)) (now (flags .exit))) (now (space .exit))) ⌝ }
+{
+    let ones = array_checks::all_ones(factors);
+    let k = array_checks::lost_refusal(
+        degree,
+        lengths,
+        points,
+        factors,
+        ones,
+        limit,
+        lost,
+        received,
+        answer.len(),
+        flags.len(),
+        space.len(),
+    );
+    if k != 0 {
+        return Ending::Refused(k);
+    }
+    work_struck(
+        degree,
+        lengths,
+        points,
+        factors,
+        ones,
+        limit,
+        lost,
+        received,
+        answer,
+        flags,
         &mut space[..SPACE],
+    )
+}
+
+// Decodes a received array jointly, with nothing lost: refusals 1 to 8, 18 behind 4 and 23 behind 6, which touch nothing; else the
+// ending, on `corrected` with the answer and the flags of its wrong columns written, and in every case with the first 49,152 bytes of
+// the working space zero.
+pub fn decode(
+    degree: u32,
+    lengths: &[u8],
+    points: &[u8],
+    factors: &[u8],
+    limit: u32,
+    received: &[u8],
+    answer: &mut [u8],
+    flags: &mut [u8],
+    space: &mut [u8],
+) -> Ending
+    ensures { λ r. ⌜ Decodes
+        (given (descriptionOf degree (now (points .entry)) (now (factors .entry)) (now (lengths .entry))) limit (now (received .entry))
+        (buffers (now (answer .entry)) (now (flags .entry))) (now (space .entry)))
+        (left r (buffers (now (answer .exit)) (now (flags .exit))) (now (space .exit))) ⌝ }
+{
+    decode_lost(
+        degree,
+        lengths,
+        points,
+        factors,
+        limit,
+        &received[..0],
+        received,
+        answer,
+        flags,
+        space,
     )
 }

@@ -12,13 +12,15 @@
 use mathlib.Core.Path.{_≡_, refl, ap}
 use mathlib.Core.List.{List, [], _∷_}
 use Prim.Native.Nat.{ℕ}
+use native.Mathlib.Decide.{ℕ-discrete}
 use native.Mathlib.Omega.{arith}
 use lib.ListN.{getD}
 use Rattle.refusal.specs.Meaning.{numberOf, detailOf}
 use Rattle.patch.specs.Patch.{patch}
 use Rattle.patch.specs.Parts.{lay}
-use Rattle.field.specs.Symbols.{plus, modulus, timesX, timesLow, times}
+use Rattle.field.specs.Symbols.{plus, modulus, timesX, timesLow, times, quotientBelow, over}
 use Rattle.poly.specs.Poly.{value, valuesAt}
+use Rattle.codes.specs.Factors.{withFactors, withFactorsRow, plain}
 use Rattle.codes.specs.Code.{Code, total, encodedRows, encoded, differs, flagsFrom, wrongCount}
 use Rattle.ending.specs.Endings.{Buffers, meaning}
 use Rattle.ending.specs.declared.Ending.{Ending}
@@ -36,7 +38,7 @@ use Rattle.marked.proofs.AllHold.{calls-hold}
 -- buffers and working space as they may come, of the right lengths
 module _ (lent : Buffers) (space : List ℕ) (h : Lent (gf16 (1 ∷ 2 ∷ 4 ∷ 8 ∷ []) (1 ∷ 1 ∷ [])) lent space) where
   abbrev pub p4 : Given
-  p4 = given (gf16 (1 ∷ 2 ∷ 4 ∷ 8 ∷ []) (1 ∷ 1 ∷ [])) 2 (5 ∷ 5 ∷ 4 ∷ 7 ∷ 9 ∷ 9 ∷ 10 ∷ 8 ∷ []) lent space
+  p4 = given (plain (gf16 (1 ∷ 2 ∷ 4 ∷ 8 ∷ []) (1 ∷ 1 ∷ []))) 2 (5 ∷ 5 ∷ 4 ∷ 7 ∷ 9 ∷ 9 ∷ 10 ∷ 8 ∷ []) lent space
 
   abbrev pub p4-left : Left
   p4-left = left (Corrected 2) (buffers (5 ∷ 5 ∷ 5 ∷ 5 ∷ 9 ∷ 9 ∷ 9 ∷ 9 ∷ []) (0 ∷ 0 ∷ 1 ∷ 1 ∷ [])) (cleared space)
@@ -102,14 +104,14 @@ abbrev with-five : Desk → ℕ → Desk
 with-five d i = placed d i (5 ∷ [])
 
 abbrev first-alone : Desk
-first-alone = with-five (zeroDesk four-points) 0
+first-alone = with-five (zeroDesk (plain four-points)) 0
 
 abbrev all-four : Desk
 all-four = with-five (with-five (with-five first-alone 1) 2) 3
 
 -- 5 5 5 5 are the values of the polynomial 5
 none-misfits : Verdict all-four 0
-unfolding zeros lay patch withColumn plus modulus timesX timesLow times value valuesAt
+unfolding zeros lay patch withColumn withFactors withFactorsRow over quotientBelow ℕ-discrete plus modulus timesX timesLow times value valuesAt
 none-misfits = fits (5 ∷ [], record { count = refl; symbols = (omega arith, tt) }, refl) none
 
 -- 5 0 0 0 are those of none
@@ -123,7 +125,7 @@ no-constant (a ∷ [], p, e) =
 no-constant (a ∷ b ∷ f, p, e) = omega (arith, p .count)
 
 one-misfit : Verdict first-alone 1
-unfolding zeros lay patch withColumn
+unfolding zeros lay patch withColumn withFactors withFactorsRow over quotientBelow ℕ-discrete plus modulus timesX timesLow times
 one-misfit = fits-not no-constant none
 
 pub later-ignored : (r : Judged) → Judges all-four r → Verdict first-alone (r .verdict) → ⊥

@@ -2,7 +2,7 @@
 --
 --   Example    what an example says, of one call
 --   Lent       buffers are lent at their right lengths
---   Holds      that the call's promise is kept so
+--   Holds      that the call's promise is kept so, with factors of one
 --   calls      P1 to P10, in order; marked, these and the three records as bytes and lines
 use mathlib.Core.Path.{_≡_}
 use mathlib.Core.List.{List, [], _∷_, _++_}
@@ -12,6 +12,7 @@ use Rattle.field.specs.Symbols.{times}
 use Rattle.field.specs.Values.{checks, Gives}
 use Rattle.field.specs.declared.Value.the-variants.{Symbol}
 use Rattle.codes.specs.Code.{Code, rows, columns}
+use Rattle.codes.specs.Factors.{plain}
 use Rattle.codes.specs.Checks.{spaceBytes}
 use Rattle.mark.specs.Promises.{Encodes, done}
 use Rattle.ending.specs.Endings.{Buffers}
@@ -47,10 +48,10 @@ pub record Lent (c : Code) (lent : Buffers) (w : List ℕ) : Type 0 where
 
 unfoldable pub Holds : Example → Type 0
 Holds (product degree a b answer) = Gives (checks degree a b) (times degree a b) (Symbol answer)
-Holds (encoding c m a) = (lent : List ℕ) → length lent ≡ rows c * columns c → Encodes c m lent (done a)
+Holds (encoding c m a) = (lent : List ℕ) → length lent ≡ rows c * columns c → Encodes (plain c) m lent (done a)
 Holds (decoding c τ y e written) = (lent : Buffers) (w : List ℕ) → Lent c lent w
-    → Decodes (given c τ y lent w) (left e (written lent) (cleared w))
-Holds (refusal c τ y k) = (lent : Buffers) (w : List ℕ) → Lent c lent w → Decodes (given c τ y lent w) (left (Refused k) lent w)
+    → Decodes (given (plain c) τ y lent w) (left e (written lent) (cleared w))
+Holds (refusal c τ y k) = (lent : Buffers) (w : List ℕ) → Lent c lent w → Decodes (given (plain c) τ y lent w) (left (Refused k) lent w)
 Holds (points q ps) = ringPoints q ≡ ps
 Holds (word q m f w) = (lent : List ℕ) → length lent ≡ q * q * q → Ring.Encodes q m f lent (done w)
 Holds (records b lines) = Prints 1 b lines

@@ -17,7 +17,7 @@ use Rattle.codes.specs.Checks.{spaceBytes}
 use Rattle.ending.specs.declared.Ending.{Ending}
 use Rattle.ending.specs.declared.Ending.the-variants.{Refused}
 use Rattle.joint.specs.Promises.{Given, Decodes, buffers, given, left}
-use Rattle.record.specs.Records.{rowsIn, columnsIn, codeIn, limitIn, symbolsIn, sizeIn, stopChecks, stopOf}
+use Rattle.record.specs.Records.{rowsIn, columnsIn, describedIn, limitIn, symbolsIn, sizeIn, stopChecks, stopOf}
 use Rattle.record.specs.Lines.{lineOf}
 use Rattle.record.specs.declared.Reply.{Reply}
 use Rattle.record.specs.declared.Reply.the-variants.{End, Last, Next}
@@ -25,7 +25,7 @@ use Rattle.record.specs.declared.Reply.the-variants.{End, Last, Next}
 -- what the decoding of the record at the front of b is given, in the working space w: its own parts, and buffers of zeros
 abbrev pub recordIn : (w b : List ℕ) → Given
 recordIn w b =
-    given (codeIn b) (limitIn b) (symbolsIn b) (buffers (replicate (rowsIn b * columnsIn b) 0) (replicate (columnsIn b) 0)) w
+    given (describedIn b) (limitIn b) (symbolsIn b) (buffers (replicate (rowsIn b * columnsIn b) 0) (replicate (columnsIn b) 0)) w
 
 -- 'One line a record': how its decoding ended, and the flags of the wrong columns
 pub record LineOf (number : ℕ) (g : Given) (line : List ℕ) : Type 0 where

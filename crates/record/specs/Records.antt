@@ -2,7 +2,7 @@
 --
 --   mark             the two bytes that a record begins with
 --   degreeIn, rowsIn, columnsIn, lengthsIn, limitIn, pointsIn, symbolsIn    the parts of a record, in their order
---   codeIn           its code
+--   codeIn           its code; describedIn, its code with factors of one
 --   sizeIn           how many bytes it has
 --   begins m b       b begins with m
 --   outOfRange       r or n is out of range
@@ -17,6 +17,7 @@ use lib.Dec.{eqb, ltb, leb}
 use lib.ListN.{length, getD, take, drop}
 use Rattle.refusal.specs.Refusal.{Check, _when_, first, badDegree, outside}
 use Rattle.codes.specs.Code.{Code, codeOf}
+use Rattle.codes.specs.Factors.{Description, ones}
 
 -- 'Each record begins with the two bytes 42 4D (hex).'
 abbrev pub mark : List ℕ
@@ -49,6 +50,10 @@ sizeIn b = 6 + rowsIn b + columnsIn b + rowsIn b * columnsIn b
 
 abbrev pub codeIn : List ℕ → Code
 codeIn b = codeOf (degreeIn b) (pointsIn b) (lengthsIn b)
+
+-- 02, 2026-11: 'Rings keep factors of one, and records on standard input too.'
+abbrev pub describedIn : List ℕ → Description
+describedIn b = record { code = codeIn b; factors = ones (columnsIn b) }
 
 unfoldable pub begins : List ℕ → List ℕ → Bool
 begins [] b = true

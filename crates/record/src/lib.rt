@@ -49,10 +49,12 @@ fn decode(number: u64, bytes: &[u8], out: &mut [u8], space: &mut [u8]) -> usize
     let symbols = points + n;
     let mut array = [0u8; 384];
     let mut flags = [0u8; 96];
+    let ones = [1u8; 96];
     let ending = joint::decode(
         bytes[2] as u32,
         &bytes[5..5 + r],
         &bytes[points..symbols],
+        &ones[..n],
         bytes[5 + r] as u32,
         &bytes[symbols..symbols + r * n],
         &mut array[..r * n],

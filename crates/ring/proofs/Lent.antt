@@ -2,7 +2,8 @@
 --
 --   Front n r v, lent    the first n numbers of r are v; they are n
 --   lengths-front        the message lengths
---   Shape q m n ks xs, shape    ks begin with the message lengths, and xs with the points of the columns; n is q as a count
+--   Shape q m n ks xs, shape    ks begin with the message lengths, xs with the points of the columns, and sixteen ones with its factors;
+--                        n is q as a count
 --   array-front          the array of a ring
 --   blank                the array that is lent from, as it begins
 --   given-back           a part that was lent, and the rest of its list behind it
@@ -12,9 +13,12 @@ use mathlib.Core.Bool.{false}
 use mathlib.Core.List.{List, _++_}
 use Prim.Native.Nat.{ℕ, _*_, _≤_}
 use native.Mathlib.Omega.{arith}
-use lib.ListN.{length, take, replicate, length-take}
+use lib.ListN.{length, take, replicate, length-take, length-replicate}
+use Rattle.codes.specs.Code.{columns}
+use Rattle.codes.specs.Factors.{ones}
+use Rattle.codes.proofs.Parts.{take-replicate}
 use lib.Seq.{take-at}
-use Rattle.hermitian.specs.Ring.{numbers, ringLengths, IsRing, ArrayOf}
+use Rattle.hermitian.specs.Ring.{numbers, ringLengths, ringCode, IsRing, ArrayOf}
 use Rattle.hermitian.specs.Checks.{badSize}
 use Rattle.hermitian.proofs.Numbers.{length-numbers}
 use Rattle.hermitian.proofs.Sizes.{Sides, sides, ring-rows}
@@ -37,6 +41,7 @@ pub record Shape (q m n : ℕ) (ks xs : List ℕ) : Type 0 where
   pub counts : Sides q n
   pub lengths : Front n ks (ringLengths q m)
   pub points : Front (n * n) xs (numbers (q * q))
+  pub factors : Front (n * n) (ones 16) (ones (columns (ringCode q m)))
 
 pub shape : {q m n : ℕ} {ks xs : List ℕ} → badSize q ≡ false → n ≡ q → take q ks ≡ ringLengths q m → take (q * q) xs ≡ numbers (q * q)
     → Shape q m n ks xs
@@ -44,6 +49,9 @@ shape {q} {m} {n} {ks} {xs} size e lengths points = rw e (record {
   counts = sides q q size refl;
   lengths = lengths-front q m refl lengths;
   points = front (q * q) xs (numbers (q * q)) points (length-numbers (q * q));
+  factors = front (q * q) (ones 16) (ones (columns (ringCode q m)))
+      (take-replicate (q * q) 16 1 (sides q q size refl .columns) ∙ ap ones (sym (length-numbers (q * q))))
+      (length-replicate (columns (ringCode q m)) 1 ∙ length-numbers (q * q));
 })
 
 -- the array of a ring, as long as the ring

@@ -15,6 +15,7 @@ use lib.ListN.{length}
 use Rattle.refusal.specs.Refusal.{first, someOutsideField}
 use Rattle.refusal.proofs.Ladders.{same-behind}
 use Rattle.codes.specs.Code.{IsArray}
+use Rattle.codes.specs.Factors.{plain}
 use Rattle.codes.specs.Lost.{coreOf}
 use Rattle.codes.specs.Checks.{remainingChecks}
 use Rattle.codes.proofs.Lost.{none-remaining}
@@ -85,7 +86,7 @@ module _ (g : Given) where
       let p = words (g .q) (g .m) (g .received) (g .lent .array) (g .lent .flags) (g .space) [] e .0 in
       let on = to-array (p .ring) (g .received) (g .lent .array) (g .lent .flags) (g .space) (p .received) (p .answer) (p .flags)
       (p .space) in
-      sym (on _) ∙ none-remaining (ringCode (g .q) (g .m)) (g .limit) (g .received) (g .lent .array) (g .lent .flags) (g .space) ∙ on _)
+      sym (on _) ∙ none-remaining (plain (ringCode (g .q) (g .m))) (g .limit) (g .received) (g .lent .array) (g .lent .flags) (g .space) ∙ on _)
 
   abbrev EndsWhole : Ending → Buffers → Type 0
   EndsWhole = RingEnds (g .q) (g .m) (g .limit) (g .received) (g .lent)

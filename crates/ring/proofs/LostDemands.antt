@@ -18,33 +18,34 @@ use mathlib.Core.Path.{_≡_, refl, sym, ap, ap₂, _∙_}
 use mathlib.Core.Logic.{_↔_, Iff·trans}
 use mathlib.Core.List.{List}
 use Prim.Native.Nat.{ℕ, _*_, _≤_, _<_}
+use native.Mathlib.Decide.{decLe}
 use native.Mathlib.Omega.{arith}
 use lib.ListN.{getD}
 use Rattle.refusal.specs.Refusal.{first}
 use Rattle.refusal.specs.Meaning.{detailOf}
-use Rattle.refusal.proofs.Keeping.{does}
 use Rattle.refusal.proofs.Ladders.{first-upto}
-use Rattle.codes.specs.Code.{total, flagsOf, safeLimit}
+use Rattle.codes.specs.Code.{IsArray, total, flagsOf, safeLimit}
 use Rattle.codes.specs.Lost.{lostFlags, right, core, twosAt}
 use Rattle.codes.specs.Lost as marks
 use Rattle.codes.specs.Near.{Nearest, Near, Far}
+use Rattle.codes.proofs.Proper.{Proper}
 use Rattle.codes.specs.Checks.{spaceBytes}
 use Rattle.ending.specs.Endings.{Buffers, meaning}
 use Rattle.ending.specs.declared.Ending.{Ending}
 use Rattle.ending.specs.declared.Ending.the-variants.{Refused, Corrected, Nothing, Several, Hollow}
 use Rattle.joint.specs.Promises as Joint
-use Rattle.joint.specs.Lost as Joint-lost
 use Rattle.joint.proofs.Halves as halves
 use Rattle.joint.proofs.Halves.{IsRefused, IsCorrected}
-use Rattle.joint.proofs.LostDemands as arrays
+use Rattle.joint.proofs.LostDemands.{lost-nearest, lost-far, lost-safe, lost-small}
 use Rattle.hermitian.specs.Ring.{ringCode, RingWord, IsRing, sectorFlags}
 use Rattle.ring.specs.Promises.{Given, carriedBack}
 use Rattle.ring.specs.Lost.{wrongAmong, flagsLost, checksLost, DecodesLost}
 use Rattle.hermitian.proofs.Numbers.{length-numbers}
-use Rattle.hermitian.proofs.Rings.{arrayOf, is-ring, is-array, array-of-ring}
+use Rattle.hermitian.proofs.Rings.{arrayOf, is-ring, array-of-ring}
 use Rattle.hermitian.proofs.Sectors.{sector-flags, is-code, nearest-word, near-exactly, far-words}
-use Rattle.hermitian.proofs.Passed.{PassedLost, to-lose}
-use Rattle.ring.proofs.Lost.{carried, passed, EndsAs, Table}
+use Rattle.hermitian.proofs.Sizes.{ring-proper, ring-counts}
+use Rattle.hermitian.proofs.Passed.{PassedLost}
+use Rattle.ring.proofs.Lost.{carried, passed, on-array, EndsAs, Table}
 
 never : (L : List ℕ) (g : Given) (k : ℕ) (b : Buffers) → ¬ EndsAs L g (Refused k) b
 never L g k b h = h .ends
@@ -56,31 +57,25 @@ others L g Nothing b h n = h .back ∙ h .ends .1
 others L g (Several t) b h n = h .back ∙ h .ends .2
 others L g (Hollow t) b h n = h .back ∙ h .ends .2
 
--- the array's decoding
-abbrev on-array : Given → Joint.Given
-on-array g = Joint.given (ringCode (g .q) (g .m)) (g .limit) (arrayOf (g .q) (g .received)) (g .lent) (g .space)
-
+-- the ring's decoding, not refused, is that of its array
 record Through (L : List ℕ) (g : Given) (e : Ending) (left : Buffers) : Type 0 where
   through : PassedLost (g .q) (g .m) (g .limit) L (g .received) (g .lent .array) (g .lent .flags) (g .space)
+  proper : Proper (ringCode (g .q) (g .m))
+  is-array : IsArray (ringCode (g .q) (g .m)) (arrayOf (g .q) (g .received))
   answer : Buffers
   ends : Table L g (arrayOf (g .q) (g .received)) e answer
-  decodes : Joint-lost.DecodesLost L (on-array g) (Joint.left e answer (Joint.cleared (g .space)))
   back : left ≡ carriedBack (g .q) e answer
 
--- the ring's decoding, not refused, is that of its array
 through-array : (L : List ℕ) (g : Given) {e : Ending} {left : Buffers} → 0 ≡ first (checksLost L g) → EndsAs L g e left → Through L g e left
 through-array L g none h =
     let p = passed L g none in
     let (x, ends, back) = carried (p .word .ring .size) (p .word .received) (Table L g) h in
     record {
       through = p;
+      proper = ring-proper (g .q) (g .m) (p .word .ring .size) (p .word .ring .order);
+      is-array = on-array L g none;
       answer = x;
       ends = ends;
-      decodes = does (Joint-lost.checksLost L (on-array g)) (λ k. Joint.left (Refused k) (g .lent) (g .space))
-          (λ l. Table L g (arrayOf (g .q) (g .received)) (l .ending) (l .buffers) × (l .space ≡ Joint.cleared (g .space))) _
-          (sym (to-lose p (arrayOf (g .q) (g .received)) (g .lent .array) (is-array (g .q) (p .word .ring .size) (p .word .received))
-          (p .word .answer)))
-          (ends, refl);
       back = back;
     }
 
@@ -134,14 +129,14 @@ module _ (L : List ℕ) (g : Given) (l : Joint.Left) (h : DecodesLost L g l) whe
       let t = corrected w i in
       let p = t .through in
       rw (t .back) (nearest-word q (g .m) (p .word .ring .size) (p .word .ring .order) _ (wrongAmong q L y) (among L g p)
-      (arrays.corrected-nearest L (on-array g) _ (t .decodes) w refl))
+      (lost-nearest (t .proper) (p .remain) (t .is-array) (t .ends)))
 
   pub corrected-flags : (w : ℕ) → l .ending ≡ Corrected w → l .buffers .flags ≡ flagsLost q L y (l .buffers .array)
   corrected-flags w i =
       let t = corrected w i in
       let p = t .through in
       let size = p .word .ring .size in
-      let ring = is-code q (g .m) size (p .word .ring .order) (arrays.corrected-nearest L (on-array g) _ (t .decodes) w refl .code) in
+      let ring = is-code q (g .m) size (p .word .ring .order) (lost-nearest (t .proper) (p .remain) (t .is-array) (t .ends) .code) in
       rw (t .back) (t .ends .flags
       ∙ ap (marks.flagsLost (ringCode q (g .m)) L (arrayOf q y)) (sym (array-of-ring q size ring)) ∙ twos L g p _ (is-ring q size ring))
 
@@ -150,7 +145,7 @@ module _ (L : List ℕ) (g : Given) (l : Joint.Left) (h : DecodesLost L g l) whe
       let t = ended-as Nothing i (λ k e. let z : _≡_ {A = ℕ} 0 1 = cc in omega arith) in
       let p = t .through in
       far-words q (g .m) (p .word .ring .size) (p .word .ring .order) _ (wrongAmong q L y) (among L g p)
-      (arrays.none-far L (on-array g) _ (t .decodes) refl)
+      (lost-far (t .proper) (p .remain) (t .is-array) (t .ends))
 
   module _ (safe : g .limit ≤ safeLimit (core (ringCode q (g .m)) L)) (not : ¬ IsRefused l) where
     ended : Through L g (l .ending) (l .buffers)
@@ -159,16 +154,20 @@ module _ (L : List ℕ) (g : Given) (l : Joint.Left) (h : DecodesLost L g l) whe
     pub safe-exactly : IsCorrected l ↔ Near (RingWord q (g .m)) (wrongAmong q L y) (g .limit)
     safe-exactly =
         let p = ended .through in
-        Iff·trans (arrays.safe-exactly L (on-array g) _ (ended .decodes) safe not)
+        Iff·trans (lost-safe (ended .proper) (p .remain) (ended .is-array) safe (g .lent) (l .ending) (ended .answer) (ended .ends))
         (near-exactly q (g .m) (p .word .ring .size) (p .word .ring .order) _ (wrongAmong q L y) (among L g p) (g .limit))
 
     pub safe-otherwise : ¬ IsCorrected l → Far (RingWord q (g .m)) (wrongAmong q L y) (g .limit)
-    safe-otherwise n =
-        let p = ended .through in
-        far-words q (g .m) (p .word .ring .size) (p .word .ring .order) _ (wrongAmong q L y) (among L g p)
-        (arrays.safe-otherwise L (on-array g) _ (ended .decodes) safe not n)
+    safe-otherwise n v i = go (decLe (wrongAmong q L y v) (g .limit))
+      where
+        go : Dec (wrongAmong q L y v ≤ g .limit) → g .limit < wrongAmong q L y v
+        go (yes k) = absurd (n (safe-exactly .1 (v, i, k)))
+        go (no k) = omega arith
 
   pub detail-small : detailOf (meaning (l .ending)) < 256
   detail-small = halves.by-number (checksLost L g) (g .lent) (g .space) (EndsAs L g) (never L g) l h
-      (λ none d. arrays.detail-small L (on-array g) _ (through-array L g none (d .0) .decodes))
+      (λ none d. let t = through-array L g none (d .0) in
+      let p = t .through .word .ring in
+      lost-small (t .proper) (t .through .remain) (t .is-array) (ring-counts q (g .m) (p .size) (p .order)) (g .lent) (l .ending)
+      (t .answer) (t .ends))
       (λ j e d. let n = ap (λ (r : Joint.Left). detailOf (meaning (r .ending))) d in omega (arith, first-upto 18 (checksLost L g) refl))

@@ -20,6 +20,7 @@ use Rattle.codes.specs.Checks as Checks
 use Rattle.mark.specs.Promises.{Left, Found, refused}
 use Rattle.mark.specs.Promises as Mark
 use Rattle.mark.proofs.Demand2.{encode-done, encode-array}
+use Rattle.mark.proofs.Plain.{struck-ones}
 use Rattle.ending.specs.Endings.{Buffers}
 use Rattle.ending.specs.declared.Ending.{Ending}
 use Rattle.ending.specs.declared.Ending.the-variants.{Refused, Corrected, Nothing, Several, Hollow}
@@ -29,20 +30,24 @@ use Rattle.joint.specs.Promises as Joint
 use Rattle.joint.specs.Lost.{LostEnds}
 use Rattle.joint.specs.Lost as Joint-lost
 use Rattle.joint.proofs.Lost.{corrected-array}
+use Rattle.joint.proofs.Struck.{ones-struck}
 use Rattle.hermitian.specs.Ring.{ringCode, ringWord, IsRing, ringOf, ArrayOf}
 use Rattle.hermitian.specs.Checks.{readChecks}
 use Rattle.ring.specs.Promises.{Reads}
 use Rattle.ring.specs.Lost.{LostRingEnds}
+use Rattle.codes.specs.Factors.{encodedBy, plain}
+use Rattle.codes.proofs.Proper.{Proper}
 use Rattle.hermitian.proofs.Sizes.{ring-proper}
 use Rattle.hermitian.proofs.Rings.{arrayOf, array-exactly}
 use Rattle.hermitian.proofs.Words.{array-ring, ring-word, encoded-ring, message-exactly}
 use Rattle.hermitian.proofs.Passed.{PassedEncoding, PassedReading, PassedLost, to-encode, to-read, to-lose}
 
 module _ {q m : ℕ} {f w : List ℕ} (p : PassedEncoding q m f w) where
-  pub encoded-by : (lent : List ℕ) (left : Left) → length lent ≡ q * q * q → Mark.Encodes (ringCode q m) f lent left
+  pub encoded-by : (lent : List ℕ) (left : Left) → length lent ≡ q * q * q → Mark.Encodes (plain (ringCode q m)) f lent left
       → left .buffer ≡ encoded (ringCode q m) f
   encoded-by lent left k h =
-      encode-array (ringCode q m) f lent left h (encode-done (ringCode q m) f lent left h .1 (to-encode p lent k))
+      encode-array (plain (ringCode q m)) f lent left h (encode-done (plain (ringCode q m)) f lent left h .1 (to-encode p lent k))
+      ∙ struck-ones (ring-proper q m (p .ring .size) (p .ring .order)) (p .message)
 
   pub encoded-array : IsRing q (encoded (ringCode q m) f)
   encoded-array = encoded-ring q m (p .ring .size) (p .ring .order) (p .message)
@@ -53,7 +58,7 @@ module _ {q m : ℕ} {f w : List ℕ} (p : PassedEncoding q m f w) where
 module _ {q m : ℕ} {w lent : List ℕ} (passes : 0 ≡ first (readChecks q m w lent)) (p : PassedReading q m w lent) {a : List ℕ}
     (is : ArrayOf q w a) where
   abbrev OfArray : Left → Type 0
-  OfArray = Found (IsMessage (ringCode q m)) (encoded (ringCode q m)) a lent
+  OfArray = Found (IsMessage (ringCode q m)) (encodedBy (plain (ringCode q m))) a lent
 
   abbrev OfRing : Left → Type 0
   OfRing = Found (IsMessage (ringCode q m)) (ringWord q m) w lent
@@ -65,28 +70,41 @@ module _ {q m : ℕ} {w lent : List ℕ} (passes : 0 ≡ first (readChecks q m w
   exactly : {f : List ℕ} → IsMessage (ringCode q m) f → (ringWord q m f ≡ w) ↔ (encoded (ringCode q m) f ≡ arrayOf q w)
   exactly = message-exactly q m (p .ring .size) (p .ring .order) (p .word)
 
-  found : (l : Left) → OfArray l → OfRing l
-  found l (inl (f, i, e, d)) = inl (f, i, exactly i .1 (e ∙ sym same), d)
-  found l (inr (n, d)) = inr (λ (f, i, e). n (f, i, exactly i .0 e ∙ same), d)
+  struck : {f : List ℕ} → IsMessage (ringCode q m) f → encodedBy (plain (ringCode q m)) f ≡ encoded (ringCode q m) f
+  struck = struck-ones (ring-proper q m (p .ring .size) (p .ring .order))
 
-  pub read-by : (l : Left) → Mark.Reads (ringCode q m) a lent l → Reads q m w lent l
-  read-by = same-keeps (Checks.readChecks (ringCode q m) a lent) (readChecks q m w lent) (refused lent) OfArray OfRing
+  found : (l : Left) → OfArray l → OfRing l
+  found l (inl (f, i, e, d)) = inl (f, i, exactly i .1 (sym (struck i) ∙ e ∙ sym same), d)
+  found l (inr (n, d)) = inr (λ (f, i, e). n (f, i, struck i ∙ exactly i .0 e ∙ same), d)
+
+  pub read-by : (l : Left) → Mark.Reads (plain (ringCode q m)) a lent l → Reads q m w lent l
+  read-by = same-keeps (Checks.readChecks (plain (ringCode q m)) a lent) (readChecks q m w lent) (refused lent) OfArray OfRing
       (to-read p a (is .array) ∙ passes) (λ none. found)
 
 module _ {q m τ : ℕ} {L y w f s : List ℕ} (p : PassedLost q m τ L y w f s) {a : List ℕ} (is : ArrayOf q y a) (b : List ℕ) where
-  abbrev Array : Ending → Buffers → Type 0
-  Array = LostEnds (ringCode q m) L a τ (buffers b f)
+  abbrev Table : List ℕ → Ending → Buffers → Type 0
+  Table z = LostEnds (ringCode q m) L z τ (buffers b f)
 
-  pub lost-ended : length b ≡ q * q * q → (l : Joint.Left) → Joint-lost.DecodesLost L (Joint.given (ringCode q m) τ a (buffers b f) s) l
+  abbrev Array : Ending → Buffers → Type 0
+  Array = Table a
+
+  proper : Proper (ringCode q m)
+  proper = ring-proper q m (p .word .ring .size) (p .word .ring .order)
+
+  pub lost-ended : length b ≡ q * q * q → (l : Joint.Left) → Joint-lost.DecodesLost L (Joint.given (plain (ringCode q m)) τ a (buffers b f) s) l
       → Array (l .ending) (l .buffers) × (l .space ≡ cleared s)
-  lost-ended k l h = told (Checks.lostChecks (ringCode q m) τ L a b f s) (λ n. Joint.left (Refused n) (buffers b f) s)
-      (λ l. Array (l .ending) (l .buffers) × (l .space ≡ cleared s)) l h
-      (λ e d. d)
+  lost-ended k l h = told (Checks.lostChecks (plain (ringCode q m)) τ L a b f s) (λ n. Joint.left (Refused n) (buffers b f) s)
+      (λ l. Joint.Struck (plain (ringCode q m)) a Table (l .ending) (l .buffers) × (l .space ≡ cleared s)) l h
+      (λ e d. (
+        ones-struck (ringCode q m) proper (array-ring q m .1 (is .array)) Table
+            (λ t x. corrected-array (ringCode q m) L proper) (l .ending) (l .buffers) .0 (d .0),
+        d .1,
+      ))
       (λ n e d. absurd (omega (arith, to-lose p a b (is .array) k)))
 
   pub lost-answer : (e : Ending) (left : Buffers) → Array e left → (t : ℕ) → e ≡ Corrected t → IsRing q (left .array)
   lost-answer e left h t is-t = array-ring q m .0
-      (corrected-array (ringCode q m) L (ring-proper q m (p .word .ring .size) (p .word .ring .order))
+      (corrected-array (ringCode q m) L proper
       (subst (λ (e : Ending). Array e left) is-t h))
 
   -- unless the ending is 'corrected', the ring's buffers stay as lent

@@ -16,7 +16,6 @@ use Rattle.codes.specs.Code.{IsMessage}
 use Rattle.mark.specs.Promises.{Left, Writes, Finds}
 use Rattle.ending.specs.Endings.{Buffers, Ends}
 use Rattle.ending.specs.declared.Ending.{Ending}
-use Rattle.ending.specs.declared.Ending.the-variants.{Refused, Corrected, Nothing, Several, Hollow}
 use Rattle.joint.specs.Promises as Joint
 use Rattle.hermitian.specs.Ring.{ringCode, ringWord, ringOf, ArrayOf}
 use Rattle.hermitian.specs.Checks.{encodeChecks, readChecks, decodeChecks}
@@ -40,11 +39,7 @@ given q m τ y b s = record { q = q; m = m; limit = τ; received = y; lent = b; 
 
 -- 'with the answer carried back': its ring; the flags of the columns are those of the sectors
 abbrev pub carriedBack : ℕ → Ending → Buffers → Buffers
-carriedBack q (Corrected w) b = record { array = ringOf q (b .array); flags = b .flags }
-carriedBack q (Refused k) b = b
-carriedBack q Nothing b = b
-carriedBack q (Several t) b = b
-carriedBack q (Hollow t) b = b
+carriedBack q = Joint.onCorrected (ringOf q)
 
 -- 'Decoding a ring is decoding that array, with the answer carried back': E is the table of the array's endings
 pub record Carried (q : ℕ) (y : List ℕ) (E : List ℕ → Ending → Buffers → Type 0) (e : Ending) (left : Buffers) : Type 0 where

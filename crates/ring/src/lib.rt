@@ -27,8 +27,16 @@ fn write_word(q: u32, m: u32, message: &[u8], word: &mut [u8])
     let n = shape::side(q);
     let ks = shape::lengths(q, m);
     let xs = shape::columns(q);
+    let ones = [1u8; 16];
     let mut array = [0u8; 64];
-    mark::encode(q, &ks[..n], &xs[..n * n], message, &mut array[..word.len()]);
+    mark::encode(
+        q,
+        &ks[..n],
+        &xs[..n * n],
+        &ones[..n * n],
+        message,
+        &mut array[..word.len()],
+    );
     carry::to_ring(q, &array[..word.len()], word);
 }
 
@@ -40,8 +48,16 @@ fn read_word(q: u32, m: u32, word: &[u8], message: &mut [u8]) -> Outcome
     let n = shape::side(q);
     let ks = shape::lengths(q, m);
     let xs = shape::columns(q);
+    let ones = [1u8; 16];
     let array = carry::array_of(q, word);
-    mark::read(q, &ks[..n], &xs[..n * n], &array[..word.len()], message)
+    mark::read(
+        q,
+        &ks[..n],
+        &xs[..n * n],
+        &ones[..n * n],
+        &array[..word.len()],
+        message,
+    )
 }
 
 // Writes the word of H(m) of a message; refusals 10, 11, 18, 5 and 7, which leave the word's buffer as lent.
@@ -104,12 +120,14 @@ fn decode_ring(
     let n = shape::side(q);
     let ks = shape::lengths(q, m);
     let xs = shape::columns(q);
+    let ones = [1u8; 16];
     let array = carry::array_of(q, received);
     let mut own = [0u8; 64];
     let ending = joint::decode_lost(
         q,
         &ks[..n],
         &xs[..n * n],
+        &ones[..n * n],
         limit,
         lost,
         &array[..received.len()],

@@ -16,23 +16,22 @@ least : (c : Code) {u k m : ℕ} → u ≡ rows c * columns c → k ≡ total (c
 unfolding jointLimit
 least c p q s = rw (p, q, s, add-one)
 
--- where the sum is known, and where the largest is
+-- where the sum is known
 abbrev start : tie.After-total → tie.Start
 start c = c .before .before .before .before
 
-limit : (c : tie.After-largest) (d : ℕ) → let t = c .before in let s = start t .args in
-    min ((t .before .cells .result - t .total .result) / (length (s .lengths .now) + 1)) (length (s .points .now) - c .largest .result)
+limit : (c : tie.After-total) (d : ℕ) → let s = start c .args in
+    min ((c .before .cells .result - c .total .result) / (length (s .lengths .now) + 1)) (length (s .points .now) - s .most)
     ≡ jointLimit (codeOf d (s .points .now) (s .lengths .now))
-limit c d = let t = c .before in least _ (t .before .cells .ensures) (t .total .ensures) (c .largest .ensures)
+limit c d = least _ (c .before .cells .ensures) (c .total .ensures) (start c .pre .1)
 
 pub joint-limit-spec : {M : Type 1} → statement M
 joint-limit-spec = tie.close (tie.spec
-    (λ c κs. search needs)
-    (λ c κs. c .before .before .before .pre .most-rows)
-    (λ c. omega (arith, total-most _ (start c .args .lengths .now) (start c .pre .lengths)))
+    (λ c κs. c .before .before .pre .0)
+    (λ c κs. c .before .before .before .pre .0 .most-rows)
+    (λ c. omega (arith, total-most _ (start c .args .lengths .now) (start c .pre .0 .lengths)))
     (λ c. search needs)
     (λ c. search needs)
-    (λ c κs. search needs)
-    (λ c. let s = start (c .before) in omega (arith, largest-most _ (s .args .lengths .now) (s .pre .lengths)))
+    (λ c. let s = start c in omega (arith, s .pre .1, largest-most _ (s .args .lengths .now) (s .pre .0 .lengths)))
     (λ c d. omega (arith, limit (c .before) d))
     (λ c d. omega (arith, limit (c .before) d)))

@@ -2,7 +2,7 @@
 -- Assumes nothing.
 use mathlib.Core.Path.{sym, _∙_}
 use Rattle.refusal.proofs.Ladders.{stopped, passed-on}
-use Rattle.codes.specs.Code.{Code, codeOf}
+use Rattle.codes.specs.Factors.{Description, descriptionOf}
 use Rattle.codes.proofs.Proper.{lengths-test}
 use Rattle.codes.proofs.Passed.{Counts, counts-of-array}
 use borrow.Author.Needs.{needs}
@@ -10,13 +10,14 @@ use Rattle.array_checks.proofs.lost_refusal.Statement.{statement}
 use Rattle.array_checks.proofs.lost_refusal.Tie as tie
 
 abbrev start : tie.After-array-refusal → tie.Start
-start c = c .before .before .before .before .before
+start c = c .before .before .before .before .before .before
 
-abbrev code : tie.After-array-refusal → Code
-code c = codeOf (start c .args .degree) (start c .args .points .now) (start c .args .lengths .now)
+abbrev described : tie.After-array-refusal → Description
+described c =
+    descriptionOf (start c .args .degree) (start c .args .points .now) (start c .args .factors .now) (start c .args .lengths .now)
 
-counts : (c : tie.Else1) → Counts (code (c .before))
-counts c = counts-of-array (code (c .before)) (start (c .before) .args .received .now) (c .before .array-refusal .ensures) (c .if1 .left)
+counts : (c : tie.Else1) → Counts (described (c .before) .code)
+counts c = counts-of-array (described (c .before)) (start (c .before) .args .received .now) (c .before .array-refusal .ensures) (c .if1 .left)
 
 remaining-refusal-requires : tie.Need-remaining-refusal-requires
 remaining-refusal-requires c κs = let k = counts c in

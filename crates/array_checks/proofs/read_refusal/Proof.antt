@@ -8,4 +8,4 @@ use Rattle.array_checks.proofs.read_refusal.Tie as tie
 pub read-refusal-spec : {M : Type 1} → statement M
 read-refusal-spec = tie.close (tie.spec
     (λ c κs. search needs)
-    (λ c m p. c .buffers-refusal .ensures m (c .before .before .before .before .args .array .now) p refl))
+    (λ c m p. c .buffers-refusal .ensures m (c .before .before .before .before .before .args .array .now) p refl))

@@ -84,12 +84,14 @@ module _ (c : tie.After-joint-limit) where
 joint-limit-requires : tie.Need-joint-limit-requires
 joint-limit-requires c κs =
     let at = sixteen (c .before) in
-    let (s, some) = sizes (here at) in
-    record {
-      most-rows = s .most-rows;
-      most-columns = omega (arith, front at, s .most-columns);
-      lengths = rw (front at) (within-largest _ _ _ (s .lengths) (enough (c .before)));
-    }
+    let (s, some) = sizes (here at) in (
+      record {
+        most-rows = s .most-rows;
+        most-columns = omega (arith, front at, s .most-columns);
+        lengths = rw (front at) (within-largest _ _ _ (s .lengths) (enough (c .before)));
+      },
+      c .before .before .largest .ensures,
+    )
 
 returns-2 : tie.Need-returns-2
 returns-2 c d = let at = c .before .before in

@@ -42,25 +42,25 @@ slice-aggregate-end-3 c = search needs
 
 end-requires : tie.Need-end-requires
 end-requires c κs = let h = c .before .before .before .before .before .before .before .before .before .before .before .before .before .before .before .pre .0 in
-    rw (held (c .before .before .before .before .before .before)) (record { counts = h .counts; proper = h .proper; received = h .received }, ((h .limit, c .before .before .before .before .before .before .before .before .lend .ensures), (omega (arith, c .before .before .before .before .before .before .before .before .before .before .before .before .before .before .before .pre .1), omega arith, omega arith)))
+    rw (held (c .before .before .before .before .before .before)) (record { counts = h .array .counts; proper = h .array .proper; received = h .array .received }, ((h .limit, c .before .before .before .before .before .before .before .before .lend .ensures), (omega (arith, c .before .before .before .before .before .before .before .before .before .before .before .before .before .before .before .pre .1), omega arith, omega arith)))
 
 array-share-prefix-own : tie.Need-array-share-prefix-own
 array-share-prefix-own c = search needs
 
 slice-aggregate-release : tie.Need-slice-aggregate-release
-slice-aggregate-release c = sym (length-take-le _ (c .before .before .before .before .before .end .last .1 .1 .1 .1 .1 .1 .0) (omega (arith, c .before .before .before .before .before .before .before .before .before .before .before .before .before .before .before .before .before .before .before .before .before .pre .0 .received .count, c .before .before .before .before .before .before .before .before .before .before .before .before .before .before .before .before .before .before .before .before .before .pre .0 .counts .cells, c .before .before .before .before .before .end .kept)))
+slice-aggregate-release c = sym (length-take-le _ (c .before .before .before .before .before .end .last .1 .1 .1 .1 .1 .1 .0) (omega (arith, c .before .before .before .before .before .before .before .before .before .before .before .before .before .before .before .before .before .before .before .before .before .pre .0 .array .received .count, c .before .before .before .before .before .before .before .before .before .before .before .before .before .before .before .before .before .before .before .before .before .pre .0 .array .counts .cells, c .before .before .before .before .before .end .kept)))
 
 array-share-prefix-wrong : tie.Need-array-share-prefix-wrong
 array-share-prefix-wrong c = search needs
 
 slice-aggregate-release-2 : tie.Need-slice-aggregate-release-2
-slice-aggregate-release-2 c = sym (length-take-le _ (c .before .before .before .before .before .before .end .last .1 .1 .1 .1 .1 .1 .1 .0) (omega (arith, c .before .before .before .before .before .before .before .before .before .before .before .before .before .before .before .before .before .before .before .before .before .before .pre .0 .counts .most-columns, c .before .before .before .before .before .before .end .kept)))
+slice-aggregate-release-2 c = sym (length-take-le _ (c .before .before .before .before .before .before .end .last .1 .1 .1 .1 .1 .1 .1 .0) (omega (arith, c .before .before .before .before .before .before .before .before .before .before .before .before .before .before .before .before .before .before .before .before .before .before .pre .0 .array .counts .most-columns, c .before .before .before .before .before .before .end .kept)))
 
 release-requires : tie.Need-release-requires
 release-requires c κs = let h = c .before .before .before .before .before .before .before .before .before .before .before .before .before .before .before .before .before .before .before .before .before .before .before .before .pre .0 in
-    let own = length-take-le (length (c .before .before .before .before .before .before .before .before .before .before .before .before .before .before .before .before .before .before .before .before .before .before .before .before .args .received .now)) (c .before .before .before .before .before .before .before .before .end .last .1 .1 .1 .1 .1 .1 .0) (omega (arith, h .received .count, h .counts .cells, c .before .before .before .before .before .before .before .before .end .kept)) in
-    let wrong = length-take-le (length (c .before .before .before .before .before .before .before .before .before .before .before .before .before .before .before .before .before .before .before .before .before .before .before .before .args .points .now)) (c .before .before .before .before .before .before .before .before .end .last .1 .1 .1 .1 .1 .1 .1 .0) (omega (arith, h .counts .most-columns, c .before .before .before .before .before .before .before .before .end .kept)) in
-    (omega (arith, h .received .count, h .answer), omega (arith, h .flags))
+    let own = length-take-le (length (c .before .before .before .before .before .before .before .before .before .before .before .before .before .before .before .before .before .before .before .before .before .before .before .before .args .received .now)) (c .before .before .before .before .before .before .before .before .end .last .1 .1 .1 .1 .1 .1 .0) (omega (arith, h .array .received .count, h .array .counts .cells, c .before .before .before .before .before .before .before .before .end .kept)) in
+    let wrong = length-take-le (length (c .before .before .before .before .before .before .before .before .before .before .before .before .before .before .before .before .before .before .before .before .before .before .before .before .args .points .now)) (c .before .before .before .before .before .before .before .before .end .last .1 .1 .1 .1 .1 .1 .1 .0) (omega (arith, h .array .counts .most-columns, c .before .before .before .before .before .before .before .before .end .kept)) in
+    (omega (arith, h .array .received .count, h .array .answer), omega (arith, h .array .flags))
 
 clear-requires : tie.Need-clear-requires
 clear-requires c κs = search needs
@@ -81,7 +81,7 @@ returns c = let a = c .before .before .before .before .before .before .before .b
     let wrong = c .before .before .before .before .before .before .before .before .before .before .before .before .before .before .before .before .before .end .last .1 .1 .1 .1 .1 .1 .1 .0 in
     let lent : Buffers = buffers (a .answer .now) (a .flags .now) in
     let ended = subst (λ (xs : List ℕ). Ends (codeOf (a .degree) xs (a .lengths .now)) (a .received .now) (a .limit) lent r (released r (fronts (codeOf (a .degree) xs (a .lengths .now)) own wrong) lent)) (held (c .before .before .before .before .before .before .before .before .before .before .before .before .before .before .before .before .before .before .before .before .before .before .before .before)) (c .before .before .before .before .before .before .before .before .before .before .before .before .before .before .before .before .before .end .ensures lent) in
-    let left = c .before .before .before .before .before .before .before .before .release .ensures ∙ ap (λ (m : ℕ). released r (buffers (take m own) (take (length (a .points .now)) wrong)) lent) (c .before .before .before .before .before .before .before .before .before .before .before .before .before .before .before .before .before .before .before .before .before .before .before .before .before .before .before .before .before .before .before .before .before .pre .0 .received .count) in
+    let left = c .before .before .before .before .before .before .before .before .release .ensures ∙ ap (λ (m : ℕ). released r (buffers (take m own) (take (length (a .points .now)) wrong)) lent) (c .before .before .before .before .before .before .before .before .before .before .before .before .before .before .before .before .before .before .before .before .before .before .before .before .before .before .before .before .before .before .before .before .before .pre .0 .array .received .count) in
     (subst (Ends (codeOf (a .degree) (a .points .now) (a .lengths .now)) (a .received .now) (a .limit) lent r) (sym left) ended, blank-of 49152 _ (c .before .before .clear .ensures) (omega (arith, c .before .before .before .before .before .before .before .before .before .before .before .before .before .before .before .before .before .end .kept, c .before .before .before .before .before .before .before .before .before .before .before .before .before .before .before .before .before .before .before .before .before .before .before .before .before .before .before .before .before .before .before .before .before .pre .1)))
 
 pub work-spec : {M : Type 1} → statement M

@@ -50,7 +50,7 @@ module _ (c : tie.After-array-of) where
 -- what the array's decoding left of the array lent for its answer
 module _ (c : tie.After-decode-lost) where
   abbrev made : tie.After-array-of
-  made = c .before .before .before .before .before .before .before
+  made = c .before .before .before .before .before .before .before .before
 
   abbrev here : tie.Start
   here = s made
@@ -59,16 +59,16 @@ module _ (c : tie.After-decode-lost) where
   lent-answer = take (length (y made)) blank
 
   abbrev own : List ℕ
-  own = c .decode-lost .last .1 .1 .1 .1 .1 .1 .0
+  own = c .decode-lost .last .1 .1 .1 .1 .1 .1 .1 .0
 
   abbrev flags : List ℕ
-  flags = c .decode-lost .last .1 .1 .1 .1 .1 .1 .1 .0
+  flags = c .decode-lost .last .1 .1 .1 .1 .1 .1 .1 .1 .0
 
   abbrev space : List ℕ
-  space = c .decode-lost .last .1 .1 .1 .1 .1 .1 .1 .1 .0
+  space = c .decode-lost .last .1 .1 .1 .1 .1 .1 .1 .1 .1 .0
 
   answer : Front (length (y made)) (own ++ drop (length (y made)) blank) own
-  answer = given-back (length (y made)) (drop (length (y made)) blank) refl (c .decode-lost .kept .1 .1 .1 .1 .1 .1 .0 ∙ size made)
+  answer = given-back (length (y made)) (drop (length (y made)) blank) refl (c .decode-lost .kept .1 .1 .1 .1 .1 .1 .1 .0 ∙ size made)
 
   -- how it ended
   ended : LostEnds (ringCode (here .args .q) (here .args .m)) (here .args .lost .now) (take (length (y made)) (made .array-of .result))
@@ -76,7 +76,7 @@ module _ (c : tie.After-decode-lost) where
       × (space ≡ cleared (here .args .space .now))
   ended = lost-ended (passed here) (made .array-of .ensures) lent-answer (size made ∙ passed here .word .received .count)
       (left (c .decode-lost .result) (buffers own flags) space)
-      (rw (shaped made .lengths .is, shaped made .points .is) at (c .decode-lost .ensures))
+      (rw (shaped made .lengths .is, shaped made .points .is, shaped made .factors .is) at (c .decode-lost .ensures))
 
 -- where the answer is lent to be carried back
 abbrev decoded : tie.After-carry-back-arg → tie.After-decode-lost
@@ -115,10 +115,13 @@ decode-ring-spec =
     (λ c. omega (arith, shaped (c .before) .counts))
     (λ c. shaped (c .before) .points .room)
     (λ c. lent (shaped (c .before .before) .points))
-    (λ c. array (c .before .before) .room)
-    (λ c. lent (array (c .before .before .before)))
-    (λ c. short (c .before .before .before))
-    (λ c. sym (size (c .before .before .before .before)))
+    (λ c. omega (arith, shaped (c .before .before) .counts))
+    (λ c. shaped (c .before .before) .factors .room)
+    (λ c. lent (shaped (c .before .before .before) .factors))
+    (λ c. array (c .before .before .before) .room)
+    (λ c. lent (array (c .before .before .before .before)))
+    (λ c. short (c .before .before .before .before))
+    (λ c. sym (size (c .before .before .before .before .before)))
     (λ c κs. search needs)
     (λ c. answer (c .before .before .before .before .before) .room)
     (λ c. lent (answer (c .before .before .before .before .before .before)))

@@ -33,9 +33,9 @@ module _ (c : tie.After-array-of) where
 returns : tie.Need-returns
 returns c =
     let r = c .before .before in
-    let a = r .before .before .before .before .before in
-    read-by (s a .pre) (passed (s a)) (a .array-of .ensures) (left (r .read .result) (r .read .last .1 .1 .1 .1 .0))
-    (rw (shaped a .lengths .is, shaped a .points .is) at (r .read .ensures))
+    let a = r .before .before .before .before .before .before in
+    read-by (s a .pre) (passed (s a)) (a .array-of .ensures) (left (r .read .result) (r .read .last .1 .1 .1 .1 .1 .0))
+    (rw (shaped a .lengths .is, shaped a .points .is, shaped a .factors .is) at (r .read .ensures))
 
 pub read-word-spec : {M : Type 1} → statement M
 read-word-spec =
@@ -50,8 +50,11 @@ read-word-spec =
     (λ c. omega (arith, shaped (c .before) .counts))
     (λ c. shaped (c .before) .points .room)
     (λ c. lent (shaped (c .before .before) .points))
-    (λ c. array (c .before .before) .room)
-    (λ c. lent (array (c .before .before .before)))
+    (λ c. omega (arith, shaped (c .before .before) .counts))
+    (λ c. shaped (c .before .before) .factors .room)
+    (λ c. lent (shaped (c .before .before .before) .factors))
+    (λ c. array (c .before .before .before) .room)
+    (λ c. lent (array (c .before .before .before .before)))
     (λ c κs. search needs)
     (λ c. search needs)
     returns)

@@ -39,7 +39,7 @@ module _ (c : tie.After-columns) where
 -- what the mark's encoding left in the part that it was lent, and that part in its array
 module _ (c : tie.After-encode) where
   abbrev given : tie.After-columns
-  given = c .before .before .before .before
+  given = c .before .before .before .before .before
 
   abbrev s : tie.Start
   s = begun given
@@ -47,11 +47,11 @@ module _ (c : tie.After-encode) where
   abbrev made : List ℕ
   made = encoded (ringCode (s .args .q) (s .args .m)) (s .args .message .now)
 
-  is-made : c .encode .last .1 .1 .1 .1 .0 ≡ made
-  is-made = encoded-by (passed s) (take (length (s .args .word .now)) blank) (left (c .encode .result) (c .encode .last .1 .1 .1 .1 .0))
-      (size given ∙ passed s .word) (rw (shaped given .lengths .is, shaped given .points .is) at (c .encode .ensures))
+  is-made : c .encode .last .1 .1 .1 .1 .1 .0 ≡ made
+  is-made = encoded-by (passed s) (take (length (s .args .word .now)) blank) (left (c .encode .result) (c .encode .last .1 .1 .1 .1 .1 .0))
+      (size given ∙ passed s .word) (rw (shaped given .lengths .is, shaped given .points .is, shaped given .factors .is) at (c .encode .ensures))
 
-  array : Front (length (s .args .word .now)) (c .encode .last .1 .1 .1 .1 .0 ++ drop (length (s .args .word .now)) blank) made
+  array : Front (length (s .args .word .now)) (c .encode .last .1 .1 .1 .1 .1 .0 ++ drop (length (s .args .word .now)) blank) made
   array = given-back (length (s .args .word .now)) (drop (length (s .args .word .now)) blank) is-made
       (encoded-array (passed s) .count ∙ sym (passed s .word))
 
@@ -79,8 +79,11 @@ write-word-spec =
     (λ c. omega (arith, shaped (c .before) .counts))
     (λ c. shaped (c .before) .points .room)
     (λ c. lent (shaped (c .before .before) .points))
-    (λ c. short (c .before .before))
-    (λ c. sym (size (c .before .before .before)))
+    (λ c. omega (arith, shaped (c .before .before) .counts))
+    (λ c. shaped (c .before .before) .factors .room)
+    (λ c. lent (shaped (c .before .before .before) .factors))
+    (λ c. short (c .before .before .before))
+    (λ c. sym (size (c .before .before .before .before)))
     (λ c κs. search needs)
     (λ c. array (c .before) .room)
     (λ c. lent (array (c .before .before)))

@@ -1,4 +1,4 @@
--- `Desk::zero` copies the points and the lengths into arrays of zeros.
+-- `Desk::zero` copies the points, the factors and the lengths into arrays of zeros.
 -- Assumes nothing.
 use mathlib.Core.Path.{refl}
 use Rattle.desk.specs.Desk.{zeros}
@@ -8,8 +8,13 @@ use Rattle.desk.proofs.Desk.zero.Tie as tie
 
 returns : tie.Need-returns
 unfolding zeros
-returns c = rw (c .before .before .before .before .store .ensures, c .before .store2 .ensures) refl
+returns c =
+    let fs = c .before .before .before .before in
+    rw (fs .before .before .before .store .ensures, fs .store2 .ensures, c .before .store3 .ensures) refl
 
 pub zero-spec : {M : Type 1} → statement M
-zero-spec =
-    tie.close (tie.spec (λ c. search needs) (λ c κs. search needs) (λ c. search needs) (λ c κs. search needs) returns)
+zero-spec = tie.close (tie.spec
+    (λ c. search needs) (λ c κs. search needs)
+    (λ c. search needs) (λ c κs. search needs)
+    (λ c. search needs) (λ c κs. search needs)
+    returns)

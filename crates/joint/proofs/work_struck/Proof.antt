@@ -1,0 +1,128 @@
+-- `work_struck` decodes the quotient, and on `corrected` alone has its answer multiplied back; with factors of one there is nothing
+-- to divide.
+-- Assumes nothing.
+use mathlib.Core.Path.{_≡_, sym, _∙_, subst}
+use mathlib.Core.List.{List}
+use Prim.Native.Nat.{ℕ, _≤_}
+use native.Mathlib.Omega.{arith}
+use lib.ListN.{length, take}
+use Rattle.codes.specs.Code.{Code, IsArray}
+use Rattle.codes.specs.Factors.{Description, descriptionOf, divided}
+use Rattle.codes.proofs.Factors.{Factors, is-divided}
+use Rattle.factors.proofs.Rows.{striking}
+use Rattle.ending.specs.Endings.{Buffers}
+use Rattle.ending.specs.declared.Ending.{Ending}
+use Rattle.ending.specs.declared.Ending.the-variants.{Corrected}
+use Rattle.joint.specs.Promises.{buffers}
+use Rattle.joint.specs.Lost.{LostEnds}
+use Rattle.joint.specs.Working.{ReadyLost}
+use Rattle.joint.proofs.Lost.{corrected-array}
+use Rattle.joint.proofs.Struck.{each-one-struck}
+use borrow.Author.Needs.{needs}
+use Rattle.joint.proofs.work_struck.Statement.{statement}
+use Rattle.joint.proofs.work_struck.Tie as tie
+
+module _ (start : tie.Start) where
+  abbrev D : Description
+  D = descriptionOf (start .args .degree) (start .args .points .now) (start .args .factors .now) (start .args .lengths .now)
+
+  abbrev L : List ℕ
+  L = start .args .lost .now
+
+  abbrev y : List ℕ
+  y = start .args .received .now
+
+  ready : ReadyLost (D .code) (start .args .limit) L y
+  ready = start .pre .0 .0
+
+  factors : Factors D
+  factors = start .pre .1 .1 .0
+
+  abbrev lent : Buffers
+  lent = buffers (start .args .answer .now) (start .args .flags .now)
+
+  abbrev Table : List ℕ → Ending → Buffers → Type 0
+  Table z = LostEnds (D .code) L z (start .args .limit) lent
+
+  room : length y ≤ 384
+  room = omega (arith, ready .received .count, ready .counts .cells)
+
+returns : tie.Need-returns
+returns c =
+    let w = c .before .before .before .before .before .before in
+    let t = w .before .before .before .before in
+    let o = t .before .before .before .before .before .before .before .before .before in
+    let r = ready o in (
+      each-one-struck (D o) (r .proper) (factors o) (o .pre .1 .1 .1 (t .if1 .taken)) (r .received) (Table o)
+          (λ n b h. corrected-array (D o .code) (L o) (r .proper) h) (w .work-plain .result)
+          (buffers (w .work-plain .last .1 .1 .1 .1 .1 .1 .0) (w .work-plain .last .1 .1 .1 .1 .1 .1 .1 .0)) (w .work-plain .ensures .0),
+      w .work-plain .ensures .1,
+    )
+
+-- where the array is divided
+module _ (c : tie.After-divide) where
+  abbrev asked : tie.Start
+  asked = c .before .before .before .before .before .before .before .before .before .before .before
+
+  abbrev quotient : List ℕ
+  quotient = take (length (y asked)) (c .divide .last .1 .1 .1 .1 .0)
+
+  is-quotient : quotient ≡ divided (D asked) (y asked)
+  is-quotient = c .divide .ensures
+
+  quotient-array : IsArray (D asked .code) quotient
+  quotient-array = subst (IsArray (D asked .code)) (sym is-quotient)
+      (is-divided (D asked) (ready asked .proper) (factors asked) (ready asked .received))
+
+  same : length quotient ≡ length (y asked)
+  same = quotient-array .count ∙ sym (ready asked .received .count)
+
+work-plain-requires-2 : tie.Need-work-plain-requires-2
+work-plain-requires-2 c κs =
+    let d = c .before .before .before .before .before in
+    let s = asked d in
+    let r = ready s in (
+      (record { counts = r .counts; proper = r .proper; received = quotient-array d; remain = r .remain }, s .pre .0 .1),
+      (s .pre .1 .0 .0 ∙ sym (same d), s .pre .1 .0 .1),
+    )
+
+-- where the quotient is decoded
+module _ (c : tie.After-work-plain2) where
+  abbrev parted : tie.After-divide
+  parted = c .before .before .before .before .before .before
+
+  abbrev answer : Buffers
+  answer = buffers (c .work-plain2 .last .1 .1 .1 .1 .1 .1 .0) (c .work-plain2 .last .1 .1 .1 .1 .1 .1 .1 .0)
+
+  ends : Table (asked parted) (divided (D (asked parted)) (y (asked parted))) (c .work-plain2 .result) answer
+  ends = subst (λ (z : List ℕ). Table (asked parted) z (c .work-plain2 .result) answer) (is-quotient parted) (c .work-plain2 .ensures .0)
+
+strike-requires : tie.Need-strike-requires
+strike-requires c κs w is =
+    let d = c .before .before .before .before .before .before .before in
+    let o = asked (parted d) in
+    let r = ready o in
+    striking {D = D o} (r .counts) (factors o) (corrected-array (D o .code) (L o) (r .proper)
+    (subst (λ (e : Ending). Table o (divided (D o) (y o)) e (answer d)) is (ends d)))
+
+returns-2 : tie.Need-returns-2
+returns-2 c =
+    let k = c .before .before in
+    let d = k .before .before .before .before .before .before .before .before in (
+      record { answer = answer d; ends = ends d; back = k .strike .ensures (answer d .flags) },
+      d .work-plain2 .ensures .1,
+    )
+
+pub work-struck-spec : {M : Type 1} → statement M
+work-struck-spec = tie.close (tie.spec
+    (λ c κs. search needs)
+    (λ c. search needs) (λ c. search needs) (λ c. search needs)
+    returns
+    (λ c. search needs)
+    (λ c κs. let o = c .before .before .before .before .before .before .before .before .before .before in (striking {D = D o} (ready o .counts) (factors o) (ready o .received), room o))
+    (λ c. let d = c .before in omega (arith, d .divide .kept .1 .1 .1 .1 .0, room (asked d)))
+    (λ c. sym (same (c .before .before)))
+    work-plain-requires-2
+    strike-requires
+    (λ c. search needs) (λ c. search needs) (λ c. search needs)
+    returns-2)
