@@ -9,3 +9,4 @@ pub mod Right
 pub mod Lost
 pub mod Factors
 pub mod Plain
+pub mod Sums

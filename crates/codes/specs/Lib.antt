@@ -3,3 +3,4 @@ pub mod Lost
 pub mod Checks
 pub mod Near
 pub mod Factors
+pub mod Added

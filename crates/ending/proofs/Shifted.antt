@@ -1,14 +1,12 @@
 -- Adding a code array to the received one changes nothing but the answer's rows; and a higher trial limit changes no ending but 'none'.
 --
---   take-add, drop-add, add-append    sums of lists by their parts; add-again, a list added twice is not there
 --   fits-shift            y + f(x) for y: N + E·f fits where N did
 --   encoded-add           the code array of a sum
---   locator-shift         a locator of y is one of y and a code array
+--   shift                 a locator of y is one of y and a code array
 --   core-add              the remaining columns of a sum
 --   differs-shift         in which columns two arrays differ, and in which their sums with a third do
---   shifted d a e left    on 'corrected' the answer with a added, else as it was
---   ends-shift            so does the decoding of the sum end
---   ends-raise            a decoding that ends otherwise than with 'none' ends so up to any higher limit
+--   corrects-shift        so 'corrected' is shifted, and its message; others-shift, every other ending stays
+--   ends-raise            a decoding that ends otherwise than with 'none' ends so up to any higher limit; corrects-raise, with its message
 -- Assumes nothing.
 use mathlib.Core.Path.{_≡_, refl, sym, ap, ap₂, _∙_, subst}
 use mathlib.Core.Bool.{Bool, not, _||_}
@@ -20,12 +18,13 @@ use lib.Dec.{eqb}
 use lib.ListN.{length, getD, take, drop, length-take, length-drop}
 use lib.Seq.{take-at, drop-at}
 use borrow.Author.Tests.{eq-eqb, ne-eqb}
+use Rattle.refusal.specs.Meaning.{numberOf}
 use Rattle.field.specs.Symbols.{plus}
 use Rattle.field.specs.Arithmetic.{Arithmetic, gf}
 use Rattle.field.proofs.Laws.{Field}
 use Rattle.poly.specs.Poly.{All, Poly, value, valuesAt, add, mul, Fits}
-use Rattle.poly.proofs.Ring.{ring, plus-zero, zero-plus}
-use Rattle.poly.proofs.Sums.{length-add, symbols-add, add-nil, add-comm, add-assoc, add-self, add-zero}
+use Rattle.poly.proofs.Ring.{ring}
+use Rattle.poly.proofs.Sums.{length-add, symbols-add}
 use Rattle.poly.proofs.Products.{mul-add}
 use Rattle.poly.proofs.Values.{value-add, value-mul, length-values}
 use Rattle.codes.specs.Code.{Code, columns, rows, total, IsMessage, IsArray, encodedRows, encoded, differs, differsAt, flagsOf}
@@ -34,8 +33,9 @@ use Rattle.codes.proofs.Flags.{flags-same}
 use Rattle.codes.proofs.Parts.{all-map, all-drop, poly-take, row-length, rest-length}
 use Rattle.codes.proofs.Proper.{Proper}
 use Rattle.codes.proofs.Messages.{encoded-array}
+use Rattle.codes.proofs.Sums.{take-add, drop-add, add-append, add-again, values-add, plus-again, getD-add, is-array-sum}
 use Rattle.ending.specs.Locators.{RowsFit, Locator, Least, OnlyOne, RowsDivide, Divides}
-use Rattle.ending.specs.Endings.{Buffers, Corrects, DividesNot, Ends}
+use Rattle.ending.specs.Endings.{meaning, Buffers, Corrects, DividesNot, Ends}
 use Rattle.ending.specs.declared.Ending.{Ending}
 use Rattle.ending.specs.declared.Ending.the-variants.{Refused, Corrected, Nothing, Several, Hollow}
 use Rattle.ending.proofs.Rows.{poly-product}
@@ -45,44 +45,14 @@ module _ {K : Type 0} (A : Arithmetic K) (𝓕 : Field A) where
   infixl 70 _⊗_
   open Arithmetic A using (In, plus as _⊕_, times as _⊗_)
 
-  take-add : (n : ℕ) (p q : List K) → take n (add A p q) ≡ add A (take n p) (take n q)
-  unfolding add
-  take-add zero p q = refl
-  take-add (suc n) [] q = refl
-  take-add (suc n) (a ∷ p) [] = refl
-  take-add (suc n) (a ∷ p) (b ∷ q) = ap (λ (l : List K). (a ⊕ b) ∷ l) (take-add n p q)
-
-  drop-add : (n : ℕ) (p q : List K) → drop n (add A p q) ≡ add A (drop n p) (drop n q)
-  unfolding add
-  drop-add zero p q = refl
-  drop-add (suc n) [] q = refl
-  drop-add (suc n) (a ∷ p) [] = sym (add-nil A 𝓕 (drop n p))
-  drop-add (suc n) (a ∷ p) (b ∷ q) = drop-add n p q
-
-  add-append : (p q u v : List K) → length p ≡ length u → add A (p ++ q) (u ++ v) ≡ add A p u ++ add A q v
-  unfolding add
-  add-append [] q [] v e = refl
-  add-append [] q (c ∷ u) v e = absurd (omega arith)
-  add-append (a ∷ p) q [] v e = absurd (omega arith)
-  add-append (a ∷ p) q (c ∷ u) v e = ap (λ (l : List K). (a ⊕ c) ∷ l) (add-append p q u v (omega arith))
-
-  add-again : (p q : List K) → length q ≤ length p → add A (add A p q) q ≡ p
-  add-again p q h =
-      add-assoc A 𝓕 p q q ∙ add-comm A 𝓕 p (add A q q) ∙ add-zero A 𝓕 (add A q q) p (add-self A 𝓕 q) (omega (arith, length-add A 𝓕 q q))
-
-  values-add : (xs p q : List K) → valuesAt A xs (add A p q) ≡ add A (valuesAt A xs p) (valuesAt A xs q)
-  unfolding valuesAt add
-  values-add [] p q = refl
-  values-add (x ∷ xs) p q = ap₂ _∷_ (value-add A 𝓕 p q x) (values-add xs p q)
-
-  pub encoded-rows-add : (xs : List K) (ks : List ℕ) (m m′ : List K)
+  encoded-rows-add : (xs : List K) (ks : List ℕ) (m m′ : List K)
       → encodedRows A xs ks (add A m m′) ≡ add A (encodedRows A xs ks m) (encodedRows A xs ks m′)
   unfolding encodedRows add
   encoded-rows-add xs [] m m′ = refl
   encoded-rows-add xs (k ∷ ks) m m′ =
-      ap₂ _++_ (ap (valuesAt A xs) (take-add k m m′) ∙ values-add xs (take k m) (take k m′))
-      (ap (encodedRows A xs ks) (drop-add k m m′) ∙ encoded-rows-add xs ks (drop k m) (drop k m′))
-      ∙ sym (add-append (valuesAt A xs (take k m)) (encodedRows A xs ks (drop k m)) (valuesAt A xs (take k m′))
+      ap₂ _++_ (ap (valuesAt A xs) (take-add A 𝓕 k m m′) ∙ values-add A 𝓕 xs (take k m) (take k m′))
+      (ap (encodedRows A xs ks) (drop-add A 𝓕 k m m′) ∙ encoded-rows-add xs ks (drop k m) (drop k m′))
+      ∙ sym (add-append A 𝓕 (valuesAt A xs (take k m)) (encodedRows A xs ks (drop k m)) (valuesAt A xs (take k m′))
       (encodedRows A xs ks (drop k m′)) (length-values A 𝓕 xs (take k m) ∙ sym (length-values A 𝓕 xs (take k m′))))
 
   poly-sum : {k : ℕ} {p q : List K} → Poly A k p → Poly A k q → Poly A k (add A p q)
@@ -117,10 +87,10 @@ module _ {K : Type 0} (A : Arithmetic K) (𝓕 : Field A) where
   right-rows-add fs n (suc r) y a e =
       let first : length (take n y) ≡ length (take n a) = omega (arith, length-take n y, length-take n a) in
       ap₂ _++_
-      (ap (right fs) (take-add n y a) ∙ right-add fs (take n y) (take n a) first)
-      (ap (rightRows fs n r) (drop-add n y a)
+      (ap (right fs) (take-add A 𝓕 n y a) ∙ right-add fs (take n y) (take n a) first)
+      (ap (rightRows fs n r) (drop-add A 𝓕 n y a)
       ∙ right-rows-add fs n r (drop n y) (drop n a) (omega (arith, length-drop n y, length-drop n a)))
-      ∙ sym (add-append (right fs (take n y)) (rightRows fs n r (drop n y)) (right fs (take n a)) (rightRows fs n r (drop n a))
+      ∙ sym (add-append A 𝓕 (right fs (take n y)) (rightRows fs n r (drop n y)) (right fs (take n a)) (rightRows fs n r (drop n a))
       (right-length fs (take n y) (take n a) first))
 
   fits-shift : (xs ys E N f : List K) → length ys ≡ length xs → Fits A xs ys E N
@@ -144,13 +114,13 @@ module _ {K : Type 0} (A : Arithmetic K) (𝓕 : Field A) where
 
     first-row : take (length xs) sum ≡ add A (take (length xs) y) (valuesAt A xs (take k m))
     unfolding encodedRows
-    first-row = take-add (length xs) y (encodedRows A xs (k ∷ ks) m)
+    first-row = take-add A 𝓕 (length xs) y (encodedRows A xs (k ∷ ks) m)
         ∙ ap (add A (take (length xs) y))
         (take-at (valuesAt A xs (take k m)) (encodedRows A xs ks (drop k m)) (length xs) (length-values A 𝓕 xs (take k m)))
 
     others : drop (length xs) sum ≡ add A (drop (length xs) y) (encodedRows A xs ks (drop k m))
     unfolding encodedRows
-    others = drop-add (length xs) y (encodedRows A xs (k ∷ ks) m)
+    others = drop-add A 𝓕 (length xs) y (encodedRows A xs (k ∷ ks) m)
         ∙ ap (add A (drop (length xs) y))
         (drop-at (valuesAt A xs (take k m)) (encodedRows A xs ks (drop k m)) (length xs) (length-values A 𝓕 xs (take k m)))
 
@@ -185,9 +155,9 @@ module _ {K : Type 0} (A : Arithmetic K) (𝓕 : Field A) where
       let (q′, fits′) = row-shift xs k ks y m e (w .0) (omega arith) s (row-length (length ks) (length xs) y l) q fits in
       let product : add A N (mul A E (take k m)) ≡ mul A E (take k (add A f m)) =
       ap (λ (p : List K). add A p (mul A E (take k m))) is ∙ sym (mul-add A 𝓕 E (take k f) (take k m))
-      ∙ ap (mul A E) (sym (take-add k f m)) in (
+      ∙ ap (mul A E) (sym (take-add A 𝓕 k f m)) in (
         (add A N (mul A E (take k m)), q′, fits′, product),
-        rw (others xs k ks y m, drop-add k f m)
+        rw (others xs k ks y m, drop-add A 𝓕 k f m)
             (divide-shift xs t E ks (drop (length xs) y) (drop k f) (drop k m) e (w .1) (rest-length (length ks) (length xs) y l)
             (omega (arith, length-drop k m)) (all-drop In k m s) rest),
       )
@@ -195,40 +165,21 @@ module _ {K : Type 0} (A : Arithmetic K) (𝓕 : Field A) where
 -- ---- of a code
 
 -- in which columns two arrays differ, and in which their sums with a third do
-same-sum : (d : ℕ) → Field (gf d) → (x y a : ℕ) → eqb (plus x a) (plus y a) ≡ eqb x y
-same-sum d 𝓕 x y a = go (ℕ-discrete x y)
+same-sum : (x y a : ℕ) → eqb (plus x a) (plus y a) ≡ eqb x y
+same-sum x y a = go (ℕ-discrete x y)
   where
     go : Dec (x ≡ y) → eqb (plus x a) (plus y a) ≡ eqb x y
     go (yes e) = eq-eqb _ _ (ap (λ (z : ℕ). plus z a) e) ∙ sym (eq-eqb x y e)
-    go (no n) = ne-eqb _ _ (λ e. n (back x ∙ ap (λ (z : ℕ). plus z a) e ∙ sym (back y))) ∙ sym (ne-eqb x y n)
-      where
-        back : (z : ℕ) → z ≡ plus (plus z a) a
-        back z = sym (𝓕 .plus-assoc z a a ∙ ap (plus z) (𝓕 .plus-self a) ∙ plus-zero (gf d) 𝓕 z)
+    go (no n) = ne-eqb _ _ (λ e. n (sym (plus-again x a) ∙ ap (λ (z : ℕ). plus z a) e ∙ plus-again y a)) ∙ sym (ne-eqb x y n)
 
-getD-add : (d : ℕ) → Field (gf d) → (p q : List ℕ) (i : ℕ) → getD (add (gf d) p q) i 0 ≡ plus (getD p i 0) (getD q i 0)
-unfolding add
-getD-add d 𝓕 [] q i = sym (zero-plus (gf d) 𝓕 (getD q i 0))
-getD-add d 𝓕 (a ∷ p) [] zero = sym (plus-zero (gf d) 𝓕 a)
-getD-add d 𝓕 (a ∷ p) [] (suc i) = sym (plus-zero (gf d) 𝓕 (getD p i 0))
-getD-add d 𝓕 (a ∷ p) (b ∷ q) zero = refl
-getD-add d 𝓕 (a ∷ p) (b ∷ q) (suc i) = getD-add d 𝓕 p q i
-
-pub differs-shift : (d : ℕ) → Field (gf d) → (r n i : ℕ) (y b a : List ℕ)
+differs-shift : (d : ℕ) → Field (gf d) → (r n i : ℕ) (y b a : List ℕ)
     → differs r n i (add (gf d) y a) (add (gf d) b a) ≡ differs r n i y b
 unfolding differs
 differs-shift d 𝓕 zero n i y b a = refl
 differs-shift d 𝓕 (suc r) n i y b a =
     ap₂ (λ (s t : Bool). not s || t)
-    (ap₂ eqb (getD-add d 𝓕 y a i) (getD-add d 𝓕 b a i) ∙ same-sum d 𝓕 (getD y i 0) (getD b i 0) (getD a i 0))
+    (ap₂ eqb (getD-add d y a i) (getD-add d b a i) ∙ same-sum (getD y i 0) (getD b i 0) (getD a i 0))
     (ap₂ (differs r n i) (drop-add (gf d) 𝓕 n y a) (drop-add (gf d) 𝓕 n b a) ∙ differs-shift d 𝓕 r n i (drop n y) (drop n b) (drop n a))
-
--- what a decoding leaves where a is added: on 'corrected' the answer is shifted by just that
-abbrev pub shifted : ℕ → List ℕ → Ending → Buffers → Buffers
-shifted d a (Refused k) left = left
-shifted d a (Corrected w) left = record { array = add (gf d) (left .array) a; flags = left .flags }
-shifted d a Nothing left = left
-shifted d a (Several t) left = left
-shifted d a (Hollow t) left = left
 
 module _ {c : Code} (p : Proper c) where
   open Code c using (degree, points, lengths)
@@ -243,16 +194,10 @@ module _ {c : Code} (p : Proper c) where
   some : All (λ (k : ℕ). 1 ≤ k) lengths
   some = all-map (λ (k : ℕ). (1 ≤ k) × (k ≤ columns c)) (λ (k : ℕ). 1 ≤ k) lengths (λ k h. h .0) (p .lengths)
 
-  pub is-message-sum : {m m′ : List ℕ} → IsMessage c m → IsMessage c m′ → IsMessage c (m ⊞ m′)
+  is-message-sum : {m m′ : List ℕ} → IsMessage c m → IsMessage c m′ → IsMessage c (m ⊞ m′)
   is-message-sum {m} {m′} h g = record {
     count = omega (arith, length-add (gf degree) 𝓕 m m′, h .count, g .count);
     symbols = symbols-add (gf degree) 𝓕 m m′ (h .symbols) (g .symbols);
-  }
-
-  pub is-array-sum : {a b : List ℕ} → IsArray c a → IsArray c b → IsArray c (a ⊞ b)
-  is-array-sum {a} {b} h g = record {
-    count = omega (arith, length-add (gf degree) 𝓕 a b, h .count, g .count);
-    symbols = symbols-add (gf degree) 𝓕 a b (h .symbols) (g .symbols);
   }
 
   pub encoded-add : (m m′ : List ℕ) → encoded c (m ⊞ m′) ≡ encoded c m ⊞ encoded c m′
@@ -281,7 +226,7 @@ module _ {c : Code} (p : Proper c) where
     }
 
     unshift : {y : List ℕ} {t : ℕ} {E : List ℕ} → IsArray c y → Locator c (y ⊞ a) t E → Locator c y t E
-    unshift {y} {t} {E} i l = subst (λ (z : List ℕ). Locator c z t E) (back i) (shift (is-array-sum i (encoded-array p h)) l)
+    unshift {y} {t} {E} i l = subst (λ (z : List ℕ). Locator c z t E) (back i) (shift (is-array-sum p i (encoded-array p h)) l)
 
     module _ {y : List ℕ} (i : IsArray c y) where
       least-shift : {τ t : ℕ} → Least c y τ t → Least c (y ⊞ a) τ t
@@ -297,26 +242,24 @@ module _ {c : Code} (p : Proper c) where
       divides-shift : (t : ℕ) (E f : List ℕ) → Poly (gf degree) (suc t) E → Divides c y t E f → Divides c (y ⊞ a) t E (f ⊞ m)
       divides-shift t E f e = divide-shift (gf degree) 𝓕 points t E lengths y f m e some (i .count) (h .count) (h .symbols)
 
-      -- z is the sum
-      pub corrects-shift : {z : List ℕ} → z ≡ y ⊞ a → {τ w : ℕ} {left : Buffers} → Corrects c y τ w left
-          → Corrects c z τ w (record { array = left .array ⊞ a; flags = left .flags })
-      corrects-shift {z} e {τ} {w} {left} k = record {
-        t = k .t;
-        least = rw e (least-shift (k .least));
-        E = k .E;
-        only = rw e (only-shift (k .only));
-        m = k .m ⊞ m;
-        message = is-message-sum (k .message) h;
-        divides = rw e (divides-shift (k .t) (k .E) (k .m) (k .only .one .size) (k .divides));
-        array = ap (λ (b : List ℕ). b ⊞ a) (k .array) ∙ sym (encoded-add (k .m) m);
-        flags = rw e (k .flags ∙ sym (flags-shift y (left .array) a));
-        detail = rw e (k .detail ∙ ap total (sym (flags-shift y (left .array) a)));
-      }
-
-      pub message-shift : {z : List ℕ} (e : z ≡ y ⊞ a) {τ w : ℕ} {left : Buffers} (k : Corrects c y τ w left)
-          → corrects-shift e k .m ≡ k .m ⊞ m
-      unfolding corrects-shift
-      message-shift e k = refl
+      -- z is the sum, and its message that of the answer with m added
+      pub corrects-shift : {z : List ℕ} → z ≡ y ⊞ a → {τ w : ℕ} {left : Buffers} (k : Corrects c y τ w left)
+          → (k′ : Corrects c z τ w (record { array = left .array ⊞ a; flags = left .flags })) × (k′ .m ≡ k .m ⊞ m)
+      corrects-shift {z} e {τ} {w} {left} k = (
+        record {
+          t = k .t;
+          least = rw e (least-shift (k .least));
+          E = k .E;
+          only = rw e (only-shift (k .only));
+          m = k .m ⊞ m;
+          message = is-message-sum (k .message) h;
+          divides = rw e (divides-shift (k .t) (k .E) (k .m) (k .only .one .size) (k .divides));
+          array = ap (λ (b : List ℕ). b ⊞ a) (k .array) ∙ sym (encoded-add (k .m) m);
+          flags = rw e (k .flags ∙ sym (flags-shift y (left .array) a));
+          detail = rw e (k .detail ∙ ap total (sym (flags-shift y (left .array) a)));
+        },
+        refl,
+      )
 
     undivided-shift : {y : List ℕ} → IsArray c y → {t : ℕ} → DividesNot c y t → DividesNot c (y ⊞ a) t
     undivided-shift {y} i {t} n = record {
@@ -324,15 +267,15 @@ module _ {c : Code} (p : Proper c) where
       only = only-shift i (n .only);
       not = λ f is d. n .not (f ⊞ m) (is-message-sum is h)
           (subst (λ (z : List ℕ). Divides c z t (n .E) (f ⊞ m)) (back i)
-          (divides-shift (is-array-sum i (encoded-array p h)) t (n .E) f (n .only .one .size) d));
+          (divides-shift (is-array-sum p i (encoded-array p h)) t (n .E) f (n .only .one .size) d));
     }
 
-    pub ends-shift : {y : List ℕ} → IsArray c y → (τ : ℕ) (lent : Buffers) (e : Ending) (left : Buffers)
-        → Ends c y τ lent e left → Ends c (y ⊞ a) τ lent e (shifted degree a e left)
-    ends-shift i τ lent (Refused k) left d = d
-    ends-shift i τ lent (Corrected w) left d = corrects-shift i refl d
-    ends-shift i τ lent Nothing left (none, kept) = (λ t E k l. none t E k (unshift i l), kept)
-    ends-shift i τ lent (Several t) left (l, two, kept) = (
+    pub others-shift : {y : List ℕ} → IsArray c y → (τ : ℕ) (lent : Buffers) (e : Ending) (left : Buffers)
+        → ¬ (numberOf (meaning e) ≡ 1) → Ends c y τ lent e left → Ends c (y ⊞ a) τ lent e left
+    others-shift i τ lent (Refused k) left n d = d
+    others-shift i τ lent (Corrected w) left n d = absurd (n refl)
+    others-shift i τ lent Nothing left n (none, kept) = (λ t E k l. none t E k (unshift i l), kept)
+    others-shift i τ lent (Several t) left n (l, two, kept) = (
       least-shift i l,
       record {
         E = two .E;
@@ -344,27 +287,34 @@ module _ {c : Code} (p : Proper c) where
       },
       kept,
     )
-    ends-shift i τ lent (Hollow t) left (l, not, kept) = (least-shift i l, undivided-shift i not, kept)
+    others-shift i τ lent (Hollow t) left n (l, not, kept) = (least-shift i l, undivided-shift i not, kept)
 
 -- a higher limit finds the same smallest size
 least-raise : {c : Code} {y : List ℕ} {τ τ′ t : ℕ} → τ ≤ τ′ → Least c y τ t → Least c y τ′ t
 least-raise h l = record { within = omega (arith, l .within); exists = l .exists; none-below = l .none-below }
 
+pub corrects-raise : {c : Code} {y : List ℕ} {τ τ′ w : ℕ} {left : Buffers} → τ ≤ τ′ → (k : Corrects c y τ w left)
+    → (k′ : Corrects c y τ′ w left) × (k′ .m ≡ k .m)
+corrects-raise h k = (
+  record {
+    t = k .t;
+    least = least-raise h (k .least);
+    E = k .E;
+    only = k .only;
+    m = k .m;
+    message = k .message;
+    divides = k .divides;
+    array = k .array;
+    flags = k .flags;
+    detail = k .detail;
+  },
+  refl,
+)
+
 pub ends-raise : (c : Code) (y : List ℕ) (τ τ′ : ℕ) (lent : Buffers) (e : Ending) (left : Buffers) → τ ≤ τ′ → ¬ (e ≡ Nothing)
     → Ends c y τ lent e left → Ends c y τ′ lent e left
 ends-raise c y τ τ′ lent (Refused k) left h n d = d
-ends-raise c y τ τ′ lent (Corrected w) left h n d = record {
-  t = d .t;
-  least = least-raise h (d .least);
-  E = d .E;
-  only = d .only;
-  m = d .m;
-  message = d .message;
-  divides = d .divides;
-  array = d .array;
-  flags = d .flags;
-  detail = d .detail;
-}
+ends-raise c y τ τ′ lent (Corrected w) left h n d = corrects-raise h d .0
 ends-raise c y τ τ′ lent Nothing left h n d = absurd (n refl)
 ends-raise c y τ τ′ lent (Several t) left h n (l, two, kept) = (least-raise h l, two, kept)
 ends-raise c y τ τ′ lent (Hollow t) left h n (l, not, kept) = (least-raise h l, not, kept)

@@ -6,3 +6,4 @@ pub mod Sectors
 pub mod Passed
 pub mod Figures
 pub mod Kernel
+pub mod Sums

@@ -7,4 +7,5 @@ pub mod Promised
 pub mod Unique
 pub mod Demands
 pub mod LostDemands
+pub mod Shifted
 pub mod Plain

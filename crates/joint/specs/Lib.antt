@@ -1,3 +1,4 @@
 pub mod Promises
 pub mod Working
 pub mod Lost
+pub mod Shifted
