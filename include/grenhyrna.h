@@ -53,6 +53,13 @@
  *
  * With nothing lost it is the decoding above. The working space is as in decoding.
  *
+ * DECODING A TRAY takes 1 to GREN_MOST_MARKS marks of one code in one call, their arrays one after another, and writes into answers[i]
+ * what decoding mark i alone answers, 256 · code + detail, and into its part of arrays and flags what that leaves. A mark with a symbol
+ * outside the field is refused on its own, GREN_BAD_SYMBOL, its array and flags as they were, and the others go on. The call answers
+ * GREN_DONE (256), with the working space as in decoding even where every mark was refused; or one of 1, 2, 3, 4, 18, 15, 5, 6, 23 and
+ * 8, the first that applies, which refuses the tray whole with answers, arrays, flags and working space as they were. With no mark
+ * answers still needs a pointer that is not null, aligned for uint32_t.
+ *
  * VERSIONS. From version 2 on the four calls on marks take factors and factor_count right after points and columns. A caller of the
  * version before, which did not name itself, hands in as many bytes of 1 as there are columns, is compiled anew, and gets the answers
  * that it got before.
@@ -73,6 +80,7 @@ enum {
     GREN_MOST_ROWS = 4,
     GREN_MOST_COLUMNS = 96,
     GREN_MOST_SYMBOLS = 384, /* rows · columns, and so K */
+    GREN_MOST_MARKS = 64,    /* of a tray */
     GREN_SPACE = 49152       /* bytes of working space */
 };
 
@@ -97,7 +105,8 @@ enum { GREN_RIGHT = 0, GREN_WRONG = 1, GREN_LOST = 2 };
 
 /* The numbers of the refusals: the first that applies, in the order of checking, is the answer. Marks check 1, 2, 3, 4, 18, 5, 6, 23,
  * 7, then reading 9 and decoding 8; rings check 10, 11, 18, 5, 7, then reading 9 and decoding 8. With lost columns 16 and 17 come
- * after 7 and before 8; 4, 18, 5, 6, 23 and 7 read all columns, lost or not, and 8 the remaining ones. */
+ * after 7 and before 8; 4, 18, 5, 6, 23 and 7 read all columns, lost or not, and 8 the remaining ones. Trays check 1, 2, 3, 4, 18, 15,
+ * 5, 6, 23, 8, and then each mark's own 7. */
 enum {
     GREN_BAD_DEGREE = 1,     /* degree is not 2, 4 or 8 */
     GREN_BAD_ROWS = 2,       /* count of the lengths is not 1 to 4 */
@@ -111,6 +120,7 @@ enum {
     GREN_NO_CODE_ARRAY = 9,  /* reading: not a code array */
     GREN_BAD_Q = 10,         /* q is not 2 or 4 */
     GREN_BAD_M = 11,         /* m is not q²−1 to q³−1 */
+    GREN_BAD_MARKS = 15,     /* a tray has no mark or more than 64 */
     GREN_BAD_LOST = 16,      /* a lost column is not below the number of columns or is named twice */
     GREN_TOO_MANY_LOST = 17, /* fewer remaining columns than the largest k */
     GREN_NO_CHECKS = 18,     /* some k equals the number of columns; of a ring, of sectors */
@@ -138,6 +148,12 @@ uint32_t gren_mark_decode_lost(uint32_t degree, const uint8_t *lengths, size_t r
                                const uint8_t *factors, size_t factor_count, uint32_t limit, const uint8_t *lost, size_t lost_count,
                                const uint8_t *received, size_t received_length, uint8_t *answer, size_t answer_length,
                                uint8_t *flags, size_t flags_length, uint8_t *space, size_t space_length);
+
+/* Decodes a tray of marks of one code: received and arrays hold marks arrays one after another, and flags columns flags a mark. */
+uint32_t gren_tray_decode(uint32_t degree, const uint8_t *lengths, size_t rows, const uint8_t *points, size_t columns,
+                          const uint8_t *factors, size_t factor_count, uint32_t limit, const uint8_t *received,
+                          size_t received_length, uint32_t *answers, size_t marks, uint8_t *arrays, size_t arrays_length,
+                          uint8_t *flags, size_t flags_length, uint8_t *space, size_t space_length);
 
 /* Writes the word of H(m) of a message. */
 uint32_t gren_ring_encode(uint32_t q, uint32_t m, const uint8_t *message, size_t message_length, uint8_t *word,

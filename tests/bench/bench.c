@@ -15,7 +15,8 @@
 
 struct test {
     const char *name;
-    char kind; /* d: decode, e: encode, r: read, h: decode a ring; D and H: with lost columns; f: decode, with factors */
+    char kind; /* d: decode, e: encode, r: read, h: decode a ring; D and H: with lost columns; f: decode, with factors;
+                  t: decode a tray of 64 marks, beside 64 calls */
     unsigned degree, columns, rows, lengths[4], wrong, lost;
 };
 
@@ -37,9 +38,13 @@ static const struct test tests[] = {
     {"GF(256) n 96 k 64 x4, 16 lost, 12 wrong", 'D', 8, 96, 4, {64, 64, 64, 64}, 12, 16},
     {"ring H(37), 4 sectors lost, 2 wrong", 'H', 4, 16, 4, {10, 9, 7, 6}, 2, 4},
     {"GF(256) n 96 k 64 x4, 25 wrong, factors", 'f', 8, 96, 4, {64, 64, 64, 64}, 25, 0},
+    {"64 marks of GF(16) n 16 k 10 9 7 6, 3 wrong; 64 calls of the library", 't', 4, 16, 4, {10, 9, 7, 6}, 3, 0},
 };
 
 static uint8_t lengths[4], points[96], factors[96], lost[96], message[384], array[384], ring[64], answer[384], flags[96], space[GREN_SPACE];
+
+static uint8_t tray[64 * 64], answered[64 * 64], flagged[64 * 16];
+static uint32_t answers[64];
 
 static struct test t;
 static size_t total, symbols;
@@ -69,6 +74,24 @@ static void damage(size_t column)
     }
 }
 
+/* A tray of 64 marks in one call, or in 64. */
+static uint32_t decode_tray(void)
+{
+    uint32_t got = 256;
+    if (own)
+        got = gren_tray_decode(t.degree, lengths, t.rows, points, t.columns, factors, t.columns, limit, tray, sizeof tray, answers, 64,
+                               answered, sizeof answered, flagged, sizeof flagged, space, sizeof space);
+    else
+        for (size_t i = 0; i < 64; i++)
+            answers[i] = gren_mark_decode(t.degree, lengths, t.rows, points, t.columns, factors, t.columns, limit, tray + i * symbols,
+                                          symbols, answered + i * symbols, symbols, flagged + i * t.columns, t.columns, space,
+                                          sizeof space);
+    for (size_t i = 0; i < 64; i++)
+        if (answers[i] != 256 + t.wrong)
+            got = answers[i];
+    return got == 256 ? expected : got;
+}
+
 static int run(unsigned long count)
 {
     uint32_t got = expected;
@@ -79,6 +102,8 @@ static int run(unsigned long count)
                       : plain_decode(lengths, t.rows, points, t.columns, limit, array, answer, flags);
         else if (t.kind == 'f')
             got = plain_decode_factors(lengths, t.rows, points, t.columns, factors, limit, array, answer, flags);
+        else if (t.kind == 't')
+            got = decode_tray();
         else if (t.kind == 'h')
             got = own ? gren_ring_decode(4, 37, limit, ring, 64, answer, 64, flags, 16, space, sizeof space)
                       : plain_decode(lengths, t.rows, points, t.columns, limit, array, answer, flags);
@@ -136,6 +161,8 @@ int main(int argc, char **argv)
         damage(w * t.columns / t.wrong + (t.lost > 0)); /* beside the lost columns */
     for (size_t w = 0; w < t.lost; w++)
         damage(lost[w] = (uint8_t)(w * t.columns / t.lost));
+    for (size_t i = 0; t.kind == 't' && i < 64; i++)
+        memcpy(tray + i * symbols, array, symbols);
     size_t remaining = t.columns - t.lost;
     limit = (uint32_t)((t.rows * remaining - total) / (t.rows + 1)), expected = 256 + t.wrong;
     if (limit > remaining - lengths[0])

@@ -423,6 +423,36 @@ uint32_t second_mark_decode(uint32_t degree, const uint8_t *lengths, size_t rows
 /* ---- lost columns */
 
 /* Checks 16 and 17; which[i] is 1 where column i is lost. */
+/* 02, 2026-01: the checks that are common come first and refuse the tray whole; a mark with a bad symbol is refused on its own. */
+uint32_t second_tray_decode(uint32_t degree, const uint8_t *lengths, size_t rows, const uint8_t *points, size_t columns,
+                            const uint8_t *factors, size_t factor_count, uint32_t limit, const uint8_t *received,
+                            size_t received_length, uint32_t *answers, size_t marks, uint8_t *arrays, size_t arrays_length,
+                            uint8_t *flags, size_t flags_length, uint8_t *space, size_t space_length)
+{
+    size_t symbols = rows * columns;
+    unsigned k = code_check(degree, lengths, rows, columns);
+    if (k)
+        return k;
+    if (marks == 0 || marks > 64)
+        return 15;
+    if (received_length != marks * symbols || arrays_length != marks * symbols || flags_length != marks * columns ||
+        space_length < SECOND_SPACE || factor_count != columns)
+        return 5;
+    if (bad_points(degree, points, columns))
+        return 6;
+    if (bad_factors(degree, factors, columns))
+        return 23;
+    if (limit > second_joint_limit(lengths, rows, columns))
+        return 8;
+    for (size_t i = 0; i < marks; i++)
+        answers[i] = outside(degree, received + i * symbols, symbols)
+                         ? 7
+                         : endings(degree, lengths, rows, points, columns, factors, limit, received + i * symbols,
+                                   arrays + i * symbols, flags + i * columns);
+    memset(space, 0, SECOND_SPACE);
+    return 256;
+}
+
 static unsigned lost_check(const uint8_t *lengths, size_t rows, size_t columns, const uint8_t *lost, size_t lost_count,
                            uint8_t *which)
 {

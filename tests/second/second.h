@@ -14,7 +14,7 @@ unsigned second_inverse(unsigned degree, unsigned a);
 unsigned second_quotient(unsigned degree, unsigned a, unsigned b);
 
 /* The same parameters in the same order as the calls of grenhyrna.h, each answering the same number. Buffers are changed just as
- * 01 says, and with lost columns and factors 02 (2026-03, 2026-11). */
+ * 01 says, and with lost columns, factors and trays 02 (2026-03, 2026-11, 2026-01). */
 uint32_t second_mark_encode(uint32_t degree, const uint8_t *lengths, size_t rows, const uint8_t *points, size_t columns,
                             const uint8_t *factors, size_t factor_count, const uint8_t *message, size_t message_length,
                             uint8_t *array, size_t array_length);
@@ -25,6 +25,10 @@ uint32_t second_mark_decode(uint32_t degree, const uint8_t *lengths, size_t rows
                             const uint8_t *factors, size_t factor_count, uint32_t limit, const uint8_t *received,
                             size_t received_length, uint8_t *answer, size_t answer_length, uint8_t *flags, size_t flags_length,
                             uint8_t *space, size_t space_length);
+uint32_t second_tray_decode(uint32_t degree, const uint8_t *lengths, size_t rows, const uint8_t *points, size_t columns,
+                            const uint8_t *factors, size_t factor_count, uint32_t limit, const uint8_t *received,
+                            size_t received_length, uint32_t *answers, size_t marks, uint8_t *arrays, size_t arrays_length,
+                            uint8_t *flags, size_t flags_length, uint8_t *space, size_t space_length);
 uint32_t second_ring_encode(uint32_t q, uint32_t m, const uint8_t *message, size_t message_length, uint8_t *word,
                             size_t word_length);
 uint32_t second_ring_read(uint32_t q, uint32_t m, const uint8_t *word, size_t word_length, uint8_t *message,

@@ -63,7 +63,7 @@ fn cells(lengths: &[u8], points: &[u8]) -> usize
 }
 
 // The joint limit, of whatever degree the code is, where the largest length is known.
-fn joint_limit(lengths: &[u8], points: &[u8], most: usize) -> usize
+fn limit_from(lengths: &[u8], points: &[u8], most: usize) -> usize
     requires { ⌜ Sizes (now lengths) (now points) ⌝ }
     requires { ⌜ most ≡ largest (now lengths) ⌝ }
     ensures { λ r. ⌜ ((d : ℕ) → r ≡ jointLimit (codeOf d (now (points .entry)) (now (lengths .entry)))) ⌝ }
@@ -71,6 +71,14 @@ fn joint_limit(lengths: &[u8], points: &[u8], most: usize) -> usize
     let spare = (cells(lengths, points) - total(lengths)) / (lengths.len() + 1);
     let short = points.len() - most;
     if spare < short { spare } else { short }
+}
+
+// For the crates above: the joint limit, of whatever degree the code is.
+pub fn joint_limit(lengths: &[u8], points: &[u8]) -> usize
+    requires { ⌜ Sizes (now lengths) (now points) ⌝ }
+    ensures { λ r. ⌜ ((d : ℕ) → r ≡ jointLimit (codeOf d (now (points .entry)) (now (lengths .entry)))) ⌝ }
+{
+    limit_from(lengths, points, largest(lengths))
 }
 
 // For the crates above: the first of the checks 1 to 4 and 18 that applies, where so many points are the most; 0 where none does.
@@ -294,7 +302,7 @@ pub fn remaining_refusal(lengths: &[u8], points: &[u8], limit: u32, lost: &[u8])
     if left < most {
         return 17;
     }
-    if joint_limit(lengths, &points[..left], most) < limit as usize {
+    if limit_from(lengths, &points[..left], most) < limit as usize {
         return 8;
     }
     0

@@ -2,7 +2,8 @@
 -- call is given.
 --
 --   returns-unique    where no two ends of the call keep its promise, neither do two numbers
---   mark-encode, mark-read, mark-decode, ring-encode, ring-read, ring-decode, mark-decode-lost, ring-decode-lost    so of each function
+--   mark-encode, mark-read, mark-decode, ring-encode, ring-read, ring-decode, mark-decode-lost, ring-decode-lost, tray-decode    so of each
+--                     function
 -- Assumes nothing.
 use mathlib.Core.Path.{_≡_, sym, ap, _∙_}
 use mathlib.Core.List.{List}
@@ -19,6 +20,8 @@ use Rattle.joint.specs.Promises as joint
 use Rattle.joint.proofs.Unique as joint-unique
 use Rattle.joint.specs.Lost as joint-lost
 use Rattle.joint.proofs.LostDemands as joint-losing
+use Rattle.tray.specs.Promises.{GivenTray, LeftTray, leftTray, DecodesTray}
+use Rattle.tray.proofs.Unique as tray-unique
 use Rattle.ring.specs.Promises as rings
 use Rattle.ring.proofs.Unique as ring-unique
 use Rattle.ring.specs.Lost as ring-lost
@@ -98,3 +101,21 @@ pub ring-decode-lost : (L : List ℕ) (g : rings.Given) {r r′ : ℕ} {b b′ :
 ring-decode-lost L g =
     returns-unique endingMeaning (λ (e : Ending) (b : Kept). ring-lost.DecodesLost L g (ended e b))
     (λ e e′ b b′ h h′. ended-parts (ring-losing.unique L g (ended e b) (ended e′ b′) h h′))
+
+-- what a tray's decoding leaves in the slices lent to it
+abbrev pub KeptTray : Type 0
+KeptTray = List ℕ × Buffers × List ℕ
+
+abbrev pub endedTray : Outcome → KeptTray → LeftTray ℕ
+endedTray o b = leftTray o (b .0) (b .1) (b .2)
+
+abbrev pub number : Ending → ℕ
+number e = packed (endingMeaning e)
+
+pub tray-decode : (g : GivenTray ℕ) {r r′ : ℕ} {b b′ : KeptTray} → Returns meaning (λ (o : Outcome). DecodesTray number g (endedTray o b)) r
+    → Returns meaning (λ (o : Outcome). DecodesTray number g (endedTray o b′)) r′ → (r ≡ r′) × (b ≡ b′)
+tray-decode g =
+    returns-unique meaning (λ (o : Outcome) (b : KeptTray). DecodesTray number g (endedTray o b))
+    (λ o o′ b b′ h h′.
+    let same = tray-unique.unique number g (endedTray o b) (endedTray o′ b′) h h′ in
+    (ap (λ (x : LeftTray ℕ). x .outcome) same, ap (λ (x : LeftTray ℕ). (x .answers, x .buffers, x .space)) same))

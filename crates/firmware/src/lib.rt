@@ -1,4 +1,4 @@
-// The C interface: the calls on marks and rings, with their answers as one number. include/grenhyrna.h is for its callers.
+// The C interface: the calls on marks, trays and rings, with their answers as one number. include/grenhyrna.h is for its callers.
 ghost use mathlib.Core.Path.{_≡_};
 ghost use Rattle.refusal.specs.Meaning.{packed};
 ghost use Rattle.firmware.specs.Returns.{Returns};
@@ -7,6 +7,7 @@ ghost use Rattle.mark.specs.Promises.{Encodes, Reads, left, meaning};
 ghost use Rattle.ending.specs.Endings.{meaning as endingMeaning};
 ghost use Rattle.joint.specs.Promises.{Decodes, buffers, given, left as ended};
 ghost use Rattle.joint.specs.Lost.{DecodesLost};
+ghost use Rattle.tray.specs.Promises.{DecodesTray, givenTray, leftTray};
 ghost use Rattle.ring.specs.Promises as rings;
 ghost use Rattle.ring.specs.Lost as ring-lost;
 use ending::Ending;
@@ -126,6 +127,39 @@ pub extern "C" fn gren_mark_decode_lost(
         lost,
         received,
         answer,
+        flags,
+        space,
+    ))
+}
+
+// Decodes a tray of marks of one code; each mark's answer is its own number.
+#[no_mangle]
+pub extern "C" fn gren_tray_decode(
+    degree: u32,
+    lengths: &[u8],
+    points: &[u8],
+    factors: &[u8],
+    limit: u32,
+    received: &[u8],
+    answers: &mut [u32],
+    arrays: &mut [u8],
+    flags: &mut [u8],
+    space: &mut [u8],
+) -> u32
+    ensures { λ r. ⌜ Returns meaning (λ o. DecodesTray (λ e. packed (endingMeaning e))
+        (givenTray (descriptionOf degree (now (points .entry)) (now (factors .entry)) (now (lengths .entry))) limit (now (received .entry))
+        (now (answers .entry)) (buffers (now (arrays .entry)) (now (flags .entry))) (now (space .entry)))
+        (leftTray o (now (answers .exit)) (buffers (now (arrays .exit)) (now (flags .exit))) (now (space .exit)))) r ⌝ }
+{
+    number(tray::decode_numbers(
+        degree,
+        lengths,
+        points,
+        factors,
+        limit,
+        received,
+        answers,
+        arrays,
         flags,
         space,
     ))

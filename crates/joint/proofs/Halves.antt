@@ -30,12 +30,12 @@ IsCorrected l = (w : ℕ) × (l .ending ≡ Corrected w)
 
 -- zeros before the rest of a list
 module _ (n : ℕ) (w : List ℕ) where
-  zeros-before : (i : ℕ) → i < n → getD (replicate n 0 ++ drop n w) i 0 ≡ 0
+  pub zeros-before : (i : ℕ) → i < n → getD (replicate n 0 ++ drop n w) i 0 ≡ 0
   zeros-before i h =
       let size : length (replicate {A = ℕ} n 0) ≡ n = length-replicate n 0 in
       List·getD-append (replicate n 0) (drop n w) 0 i (omega arith) ∙ getD-replicate n i 0 0 h
 
-  rest-behind : (i : ℕ) → n ≤ i → getD (replicate n 0 ++ drop n w) i 0 ≡ getD w i 0
+  pub rest-behind : (i : ℕ) → n ≤ i → getD (replicate n 0 ++ drop n w) i 0 ≡ getD w i 0
   rest-behind i h =
       let size : length (replicate {A = ℕ} n 0) ≡ n = length-replicate n 0 in
       let e : i ≡ length (replicate {A = ℕ} n 0) + (i - n) = omega arith in

@@ -73,16 +73,16 @@ module _ (c : tie.Else2) where
   rest2 d = rest1 sixteen d ∙ miss _ _ _ (le-ltb (columns (remains sixteen d)) _ (omega (arith, all sixteen d, enough)))
 
 -- the limit that the code works out
-module _ (c : tie.After-joint-limit) where
+module _ (c : tie.After-limit-from) where
   abbrev seventeen : tie.Else2
   seventeen = c .before .before
 
-  limit-is : (d : ℕ) → c .joint-limit .result ≡ jointLimit (remains (sixteen seventeen) d)
+  limit-is : (d : ℕ) → c .limit-from .result ≡ jointLimit (remains (sixteen seventeen) d)
   limit-is d = let at = sixteen seventeen in
-      c .joint-limit .ensures d ∙ joint-same d d _ _ (here at .args .lengths .now) (front at ∙ omega (arith, all at d))
+      c .limit-from .ensures d ∙ joint-same d d _ _ (here at .args .lengths .now) (front at ∙ omega (arith, all at d))
 
-joint-limit-requires : tie.Need-joint-limit-requires
-joint-limit-requires c κs =
+limit-from-requires : tie.Need-limit-from-requires
+limit-from-requires c κs =
     let at = sixteen (c .before) in
     let (s, some) = sizes (here at) in (
       record {
@@ -114,6 +114,6 @@ remaining-refusal-spec = tie.close (tie.spec
     (λ c κs. search needs)
     returns-2
     (λ c. sym (front (sixteen (c .before))))
-    joint-limit-requires
+    limit-from-requires
     returns-3
     returns-4)
