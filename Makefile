@@ -3,6 +3,7 @@
 # make lost      decodes the first record of samples/grease.bin with columns 1 and 4 lost; INPUT=file and LOST=1,4 give others
 # make lib       builds target/staticlib/libfirmware.a for C callers, and the examples with it, and runs those
 # make compare   the library against the second program; COUNT=100000 calls, SEED=1
+# make powers    how often rows are corrected by their powers beyond half the distance; ROWS=20000 rows of each code
 # make bench     a table of the standard cases, beside a plain C decoder
 # make fuzz      arbitrary bytes for the C functions and for the record program; SECONDS_EACH=30 for each, SEED=1
 # make check     the proofs alone; make fmt lays the sources out; make clean removes what was built
@@ -10,7 +11,7 @@ INPUT ?= samples/three.bin
 COUNT ?= 100000
 SEED ?= 20261115
 SECONDS_EACH ?= 30
-.PHONY: all test run lost lib compare bench fuzz check fmt clean
+.PHONY: all test run lost lib compare powers bench fuzz check fmt clean
 
 all: test
 
@@ -30,6 +31,9 @@ lib:
 
 compare:
 	@COUNT=$(COUNT) SEED=$(SEED) tests/firmware
+
+powers:
+	@tests/powers
 
 bench:
 	@tests/bench/run

@@ -1,7 +1,7 @@
 /* Grenhyrna: marks struck on bar ends, encoded, read and decoded. C99 and C++.
  *
  * Every function is proved to do what is said here for every input: it ends, it reads and writes nothing but the buffers lent, and
- * it needs no set-up. Link libfirmware.a (x86-64); of its host it needs memcpy and memset alone, and less than 26 KB of stack (read
+ * it needs no set-up. Link libfirmware.a (x86-64); of its host it needs memcpy and memset alone, and less than 27 KB of stack (read
  * off the compiled code, and not proved).
  *
  * A code is a field GF(2^degree), columns distinct points (one a column), as many factors (one a column, none of them zero), and
@@ -53,6 +53,22 @@
  *
  * With nothing lost it is the decoding above. The working space is as in decoding.
  *
+ * DECODING A ROW BY POWERS takes a code of one row, by its k, and a number s of powers, 1 to 4. Each received symbol, divided by its
+ * column's factor, is raised to the powers 1 to s: that gives s rows, of which row i has the message length i·(k − 1) + 1, and they are
+ * decoded jointly. Received, answer and flags are those of the one row, columns symbols each. The trial limit may go up to the joint
+ * limit of the s rows, the smaller of (s·columns − K)/(s + 1) rounded down and columns − k_max, where k_max = s·(k − 1) + 1 and
+ * K = (k − 1)·s·(s + 1)/2 + s; it can fall as s grows. The safe limit is that of the s rows too:
+ *
+ *   code              detail                      answer and flags
+ *   GREN_REFUSED 0    number of the refusal       as they were; the working space too
+ *   GREN_CORRECTED 1  number of wrong symbols     written: the only nearest codeword of the one row, and a flag a symbol, 1 where it
+ *                                                 was wrong
+ *   GREN_NONE 2       0                           as they were: no codeword is within the limit
+ *   GREN_SEVERAL 3    size of the locators        as they were
+ *   GREN_HOLLOW 4     size of the locator         as they were
+ *
+ * With s = 1 it is the decoding of the one row. The working space is as in decoding.
+ *
  * DECODING A TRAY takes 1 to GREN_MOST_MARKS marks of one code in one call, their arrays one after another, and writes into answers[i]
  * what decoding mark i alone answers, 256 · code + detail, and into its part of arrays and flags what that leaves. A mark with a symbol
  * outside the field is refused on its own, GREN_BAD_SYMBOL, its array and flags as they were, and the others go on. The call answers
@@ -62,7 +78,8 @@
  *
  * VERSIONS. From version 2 on the four calls on marks take factors and factor_count right after points and columns. A caller of the
  * version before, which did not name itself, hands in as many bytes of 1 as there are columns, is compiled anew, and gets the answers
- * that it got before.
+ * that it got before. Version 3 has gren_mark_decode_powers and gren_tray_decode
+ * besides, and changes nothing for a caller of version 2.
  */
 #ifndef GRENHYRNA_H
 #define GRENHYRNA_H
@@ -70,7 +87,7 @@
 #include <stddef.h>
 #include <stdint.h>
 
-#define GREN_VERSION 2 /* of these declarations */
+#define GREN_VERSION 3 /* of these declarations */
 
 #ifdef __cplusplus
 extern "C" {
@@ -105,8 +122,9 @@ enum { GREN_RIGHT = 0, GREN_WRONG = 1, GREN_LOST = 2 };
 
 /* The numbers of the refusals: the first that applies, in the order of checking, is the answer. Marks check 1, 2, 3, 4, 18, 5, 6, 23,
  * 7, then reading 9 and decoding 8; rings check 10, 11, 18, 5, 7, then reading 9 and decoding 8. With lost columns 16 and 17 come
- * after 7 and before 8; 4, 18, 5, 6, 23 and 7 read all columns, lost or not, and 8 the remaining ones. Trays check 1, 2, 3, 4, 18, 15,
- * 5, 6, 23, 8, and then each mark's own 7. */
+ * after 7 and before 8; 4, 18, 5, 6, 23 and 7 read all columns, lost or not, and 8 the remaining ones. Decoding by powers checks 1, 3,
+ * 20, 4, 18, 5, 6, 23, 7 and 8; 4 and 18 read k and the largest length s·(k − 1) + 1, and 5 the lengths of one row. Trays
+ * check 1, 2, 3, 4, 18, 15, 5, 6, 23, 8, and then each mark's own 7. */
 enum {
     GREN_BAD_DEGREE = 1,     /* degree is not 2, 4 or 8 */
     GREN_BAD_ROWS = 2,       /* count of the lengths is not 1 to 4 */
@@ -124,6 +142,7 @@ enum {
     GREN_BAD_LOST = 16,      /* a lost column is not below the number of columns or is named twice */
     GREN_TOO_MANY_LOST = 17, /* fewer remaining columns than the largest k */
     GREN_NO_CHECKS = 18,     /* some k equals the number of columns; of a ring, of sectors */
+    GREN_BAD_POWERS = 20,    /* the number of powers is not 1 to 4 */
     GREN_BAD_FACTOR = 23     /* a factor is outside the field or zero */
 };
 
@@ -148,6 +167,12 @@ uint32_t gren_mark_decode_lost(uint32_t degree, const uint8_t *lengths, size_t r
                                const uint8_t *factors, size_t factor_count, uint32_t limit, const uint8_t *lost, size_t lost_count,
                                const uint8_t *received, size_t received_length, uint8_t *answer, size_t answer_length,
                                uint8_t *flags, size_t flags_length, uint8_t *space, size_t space_length);
+
+/* Decodes a received row as powers of it, up to the trial limit. */
+uint32_t gren_mark_decode_powers(uint32_t degree, uint32_t k, uint32_t powers, const uint8_t *points, size_t columns,
+                                 const uint8_t *factors, size_t factor_count, uint32_t limit, const uint8_t *received,
+                                 size_t received_length, uint8_t *answer, size_t answer_length, uint8_t *flags,
+                                 size_t flags_length, uint8_t *space, size_t space_length);
 
 /* Decodes a tray of marks of one code: received and arrays hold marks arrays one after another, and flags columns flags a mark. */
 uint32_t gren_tray_decode(uint32_t degree, const uint8_t *lengths, size_t rows, const uint8_t *points, size_t columns,

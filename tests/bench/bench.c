@@ -16,7 +16,7 @@
 struct test {
     const char *name;
     char kind; /* d: decode, e: encode, r: read, h: decode a ring; D and H: with lost columns; f: decode, with factors;
-                  t: decode a tray of 64 marks, beside 64 calls */
+                  p: one row, by powers; t: decode a tray of 64 marks, beside 64 calls */
     unsigned degree, columns, rows, lengths[4], wrong, lost;
 };
 
@@ -38,6 +38,7 @@ static const struct test tests[] = {
     {"GF(256) n 96 k 64 x4, 16 lost, 12 wrong", 'D', 8, 96, 4, {64, 64, 64, 64}, 12, 16},
     {"ring H(37), 4 sectors lost, 2 wrong", 'H', 4, 16, 4, {10, 9, 7, 6}, 2, 4},
     {"GF(256) n 96 k 64 x4, 25 wrong, factors", 'f', 8, 96, 4, {64, 64, 64, 64}, 25, 0},
+    {"GF(256) n 31 k 6 by 2 powers, 15 wrong", 'p', 8, 31, 2, {6, 11}, 15, 0},
     {"64 marks of GF(16) n 16 k 10 9 7 6, 3 wrong; 64 calls of the library", 't', 4, 16, 4, {10, 9, 7, 6}, 3, 0},
 };
 
@@ -102,6 +103,10 @@ static int run(unsigned long count)
                       : plain_decode(lengths, t.rows, points, t.columns, limit, array, answer, flags);
         else if (t.kind == 'f')
             got = plain_decode_factors(lengths, t.rows, points, t.columns, factors, limit, array, answer, flags);
+        else if (t.kind == 'p')
+            got = own ? gren_mark_decode_powers(t.degree, lengths[0], t.rows, points, t.columns, factors, t.columns, limit, array,
+                                                t.columns, answer, t.columns, flags, t.columns, space, sizeof space)
+                      : plain_decode_powers(lengths, t.rows, points, t.columns, limit, array, answer, flags);
         else if (t.kind == 't')
             got = decode_tray();
         else if (t.kind == 'h')
@@ -153,7 +158,7 @@ int main(int argc, char **argv)
     for (size_t i = 0; i < total; i++)
         message[i] = (uint8_t)below(1u << t.degree);
     plain_field(t.degree);
-    plain_encode(lengths, t.rows, points, t.columns, message, array);
+    plain_encode(lengths, t.kind == 'p' ? 1 : t.rows, points, t.columns, message, array);
     plain_multiply(t.rows, t.columns, factors, array);
     if (t.kind == 'h' || t.kind == 'H')
         gren_ring_encode(4, 37, message, total, ring, 64);

@@ -231,3 +231,13 @@ uint32_t plain_decode_factors(const uint8_t *lengths, size_t rows, const uint8_t
         plain_multiply(rows, columns, factors, answer);
     return ending;
 }
+
+uint32_t plain_decode_powers(const uint8_t *lengths, size_t powers, const uint8_t *points, size_t columns, uint32_t limit,
+                             const uint8_t *received, uint8_t *answer, uint8_t *flags)
+{
+    static uint8_t ys[MOST];
+    memcpy(ys, received, columns);
+    for (size_t i = columns; i < powers * columns; i++)
+        ys[i] = product(ys[i - columns], received[i % columns]);
+    return plain_decode(lengths, powers, points, columns, limit, ys, answer, flags);
+}

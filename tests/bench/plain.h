@@ -15,4 +15,7 @@ uint32_t plain_decode_lost(const uint8_t *lengths, size_t rows, const uint8_t *p
 void plain_multiply(size_t rows, size_t columns, const uint8_t *factors, uint8_t *array);
 uint32_t plain_decode_factors(const uint8_t *lengths, size_t rows, const uint8_t *points, size_t columns, const uint8_t *factors,
                               uint32_t limit, const uint8_t *received, uint8_t *answer, uint8_t *flags);
+/* One row by its powers, as many as there are lengths; its answer is the first row of what is written. */
+uint32_t plain_decode_powers(const uint8_t *lengths, size_t powers, const uint8_t *points, size_t columns, uint32_t limit,
+                             const uint8_t *received, uint8_t *answer, uint8_t *flags);
 #endif

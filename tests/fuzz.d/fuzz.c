@@ -84,7 +84,10 @@ static size_t any_length(size_t right, size_t most)
     return length <= most ? length : most;
 }
 
-static unsigned long ends[2][5], refused, refused_for_a_factor, done;
+/* The ways of decoding, and how often each ended how. */
+enum { NO_LIST, WITH_LIST, BY_POWERS, WAYS };
+static const char *const ways[WAYS] = {"with no list", "with lost columns", "by powers"};
+static unsigned long ends[WAYS][5], refused, refused_for_a_factor, done;
 static int on_mark; /* the call is on a mark: rings have no factors */
 
 static int only_read(void)
@@ -106,13 +109,13 @@ static int flagged(uint32_t wrong)
     return ones == wrong;
 }
 
-static int decoded(int with_list, uint32_t r)
+static int decoded(int way, uint32_t r)
 {
     uint32_t code = gren_code(r), detail = gren_detail(r);
     int ok = code <= GREN_HOLLOW && inside(RESULT) && inside(FLAGS) && only_read();
     if (code == GREN_REFUSED)
-        ok &= ((detail >= 1 && detail <= 11 && detail != 9) || detail == 18 || (with_list && (detail == 16 || detail == 17))
-               || (on_mark && detail == GREN_BAD_FACTOR))
+        ok &= ((detail >= 1 && detail <= 11 && detail != 9) || detail == 18 || (way == WITH_LIST && (detail == 16 || detail == 17))
+               || (way == BY_POWERS && detail == GREN_BAD_POWERS) || (on_mark && detail == GREN_BAD_FACTOR))
               && as_lent(SPACE);
     else
         ok &= space_cleared();
@@ -121,7 +124,7 @@ static int decoded(int with_list, uint32_t r)
     else
         ok &= as_lent(RESULT) && as_lent(FLAGS);
     if (ok)
-        ends[with_list][code]++;
+        ends[way][code]++;
     refused_for_a_factor += r == GREN_BAD_FACTOR;
     return ok;
 }
@@ -206,12 +209,38 @@ static int mark(int call)
     lay(SPACE, chance(12) ? below(16 * 4096) : GREN_SPACE + below(100), 256);
     uint32_t limit = any_number(below((unsigned)columns));
     if (call == 2)
-        return decoded(0, gren_mark_decode(asked, ks->at, ks->length, xs->at, xs->length, fs->at, fs->length, limit, y->at, y->length,
+        return decoded(NO_LIST, gren_mark_decode(asked, ks->at, ks->length, xs->at, xs->length, fs->at, fs->length, limit, y->at, y->length,
                                            a->at, a->length, buffers[FLAGS].at, buffers[FLAGS].length, buffers[SPACE].at,
                                            buffers[SPACE].length));
-    return decoded(1, gren_mark_decode_lost(asked, ks->at, ks->length, xs->at, xs->length, fs->at, fs->length, limit / 2,
+    return decoded(WITH_LIST, gren_mark_decode_lost(asked, ks->at, ks->length, xs->at, xs->length, fs->at, fs->length, limit / 2,
                                             buffers[LOST].at, buffers[LOST].length, y->at, y->length, a->at, a->length,
                                             buffers[FLAGS].at, buffers[FLAGS].length, buffers[SPACE].at, buffers[SPACE].length));
+}
+
+/* One row by its powers. */
+static int row(void)
+{
+    static const uint32_t degrees[] = {2, 4, 8};
+    uint32_t degree = degrees[below(3)], powers = 1 + below(4);
+    unsigned symbols = 1u << degree;
+    size_t most = symbols < 96 ? symbols : 96, columns = 1 + below((unsigned)most);
+    uint32_t k = 1 + below((unsigned)columns / powers + 1);
+    struct buffer *xs = &buffers[POINTS], *fs = &buffers[FACTORS], *y = &buffers[INPUT], *a = &buffers[RESULT];
+    lay(LENGTHS, 0, 1);
+    lay(POINTS, any_length(columns, 300), symbols);
+    for (size_t i = 0; i < xs->length && !chance(20); i++)
+        xs->at[i] = (uint8_t)i;
+    memcpy(xs->copy, xs->room, xs->size);
+    lay_factors(columns, symbols);
+    lay_lost(0, columns);
+    lay(INPUT, any_length(columns, 1000), chance(3) ? 1 : chance(3) ? 2 : symbols);
+    lay(RESULT, any_length(columns, 1000), 256);
+    lay(FLAGS, any_length(columns, 300), 256);
+    lay(SPACE, chance(12) ? below(16 * 4096) : GREN_SPACE + below(100), 256);
+    return decoded(BY_POWERS,
+                   gren_mark_decode_powers(any_number(degree), any_number(k), any_number(powers), xs->at, xs->length, fs->at, fs->length,
+                                           any_number(below((unsigned)columns / 2 + 1)), y->at, y->length, a->at, a->length,
+                                           buffers[FLAGS].at, buffers[FLAGS].length, buffers[SPACE].at, buffers[SPACE].length));
 }
 
 static int ring(int call)
@@ -236,9 +265,9 @@ static int ring(int call)
     lay(SPACE, chance(12) ? below(16 * 4096) : GREN_SPACE + below(100), 256);
     uint32_t limit = any_number(below(8));
     if (call == 2)
-        return decoded(0, gren_ring_decode(asked, order, limit, y->at, y->length, a->at, a->length, buffers[FLAGS].at,
+        return decoded(NO_LIST, gren_ring_decode(asked, order, limit, y->at, y->length, a->at, a->length, buffers[FLAGS].at,
                                            buffers[FLAGS].length, buffers[SPACE].at, buffers[SPACE].length));
-    return decoded(1, gren_ring_decode_lost(asked, order, limit / 2, buffers[LOST].at, buffers[LOST].length, y->at, y->length, a->at,
+    return decoded(WITH_LIST, gren_ring_decode_lost(asked, order, limit / 2, buffers[LOST].at, buffers[LOST].length, y->at, y->length, a->at,
                                             a->length, buffers[FLAGS].at, buffers[FLAGS].length, buffers[SPACE].at,
                                             buffers[SPACE].length));
 }
@@ -251,9 +280,9 @@ static int calls(double seconds, unsigned long seed)
     clock_gettime(CLOCK_MONOTONIC, &began);
     do {
         for (int i = 0; i < 100; i++, n++) {
-            int call = (int)below(4);
-            on_mark = !chance(3);
-            if (!(on_mark ? mark(call) : ring(call))) {
+            int call = (int)below(4), by_powers = chance(6);
+            on_mark = by_powers || !chance(3);
+            if (!(by_powers ? row() : on_mark ? mark(call) : ring(call))) {
                 printf("fuzz: seed %lu, call %lu: a number or a buffer is not as promised\n", seed, n);
                 return 1;
             }
@@ -262,10 +291,10 @@ static int calls(double seconds, unsigned long seed)
     } while ((double)(now.tv_sec - began.tv_sec) + (double)(now.tv_nsec - began.tv_nsec) / 1e9 < seconds);
     printf("fuzz: seed %lu: %lu calls: %lu done, %lu refused; of all, %lu refused for a factor\n", seed, n, done, refused,
            refused_for_a_factor);
-    for (int with_list = 0; with_list < 2; with_list++) {
-        unsigned long *e = ends[with_list];
-        printf("fuzz: decodings with %s: %lu corrected, %lu none, %lu several, %lu hollow, %lu refused\n",
-               with_list ? "lost columns" : "no list", e[1], e[2], e[3], e[4], e[0]);
+    for (int way = 0; way < WAYS; way++) {
+        unsigned long *e = ends[way];
+        printf("fuzz: decodings %s: %lu corrected, %lu none, %lu several, %lu hollow, %lu refused\n", ways[way], e[1], e[2], e[3], e[4],
+               e[0]);
     }
     return 0;
 }

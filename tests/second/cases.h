@@ -68,6 +68,10 @@ static void read_argument(void)
         set_number(3, one_number());
     else if (word("m "))
         set_number(5, one_number());
+    else if (word("k "))
+        set_number(K, one_number());
+    else if (word("powers "))
+        set_number(POWERS, one_number());
     else if (word("lengths "))
         frame[6] = (uint8_t)numbers(frame + LENGTHS, MOST_LENGTHS);
     else if (word("points "))
@@ -91,7 +95,7 @@ static void read_argument(void)
 static void read_call(void)
 {
     static const char *const calls[] = {"encode:",      "read:",            "decode:",      "ring encode:", "ring read:",
-                                        "ring decode:", "ring decode lost:", "decode lost:", NULL};
+                                        "ring decode:", "ring decode lost:", "decode lost:", "decode powers:", NULL};
     int factors_given = 0;
     memset(frame, 0, sizeof frame);
     while (calls[frame[0]] && !word(calls[frame[0]]))

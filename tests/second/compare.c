@@ -1,8 +1,8 @@
 /* Compares the static library with the second program over many random calls: all fields, lengths, limits, endings and refusals,
- * column factors, and lists of lost columns. Every buffer has guard bytes around it; what a call must not change is compared byte by byte, and so is
- * the working space.
+ * column factors, lists of lost columns, and rows read by their powers. Every buffer has guard bytes around it; what a call must not
+ * change is compared byte by byte, and so is the working space.
  *
- *   compare [COUNT [SEED]]    COUNT calls, and half as many with lost columns
+ *   compare [COUNT [SEED]]    COUNT calls, half as many with lost columns, and as many again of rows read by their powers
  */
 #define _POSIX_C_SOURCE 200112L
 #include "grenhyrna.h"
@@ -41,7 +41,7 @@ static void both(struct buffer *b)
 }
 
 /* Calls whose endings are counted apart. */
-enum { MARKS, RINGS, LOST_MARKS, LOST_RINGS, KINDS };
+enum { MARKS, RINGS, LOST_MARKS, LOST_RINGS, POWERED, KINDS };
 
 /* What a list of lost columns is like; the first six are good where the largest k allows. */
 enum { EMPTY, FRONT, BACK, ANY_ORDER, FALLING, ALL_BUT_LARGEST, TOO_MANY, TWICE, OUT_OF_RANGE, ALL, TOO_LONG, SHAPES };
@@ -63,6 +63,7 @@ static struct {
     unsigned long endings[KINDS][5], refusals[KINDS][32], done;
     unsigned long looked_at[SHAPES], tight_calls, nothing_wrong, bad_where_lost;
     unsigned long factors[FACTORS], orders[ORDERS], not_read_for_a_factor, corrected_for_a_factor;
+    unsigned long powers[5], beyond_half, single_rows, twenty_before_four, large_numbers;
 } tried;
 
 static struct buffer lengths, points, factors, lost, first, second, flags;
@@ -644,6 +645,116 @@ static int compare_ring_lost(void)
     return compare_lost(&c, 1, q, (unsigned)c.columns);
 }
 
+/* ---- rows read by their powers */
+
+/* A number of 32 bits, of which the low eight are those of a small one. */
+static uint32_t large(uint32_t n)
+{
+    return n + 256 * (chance(2) ? 1 : 1 + below(1u << 23));
+}
+
+/* A code of one row, nearly always one that the powers allow; the degree is answered. */
+static uint32_t random_row(uint32_t *k, uint32_t *powers, size_t *columns)
+{
+    size_t rows;
+    uint32_t degree = random_code(&rows, columns, 1);
+    unsigned n = *columns < 2 ? 2 : (unsigned)*columns;
+    *powers = 1 + below(4);
+    *k = 1 + below((n - 2) / *powers + 1);
+    switch (below(30)) {
+    case 0: *powers = chance(2) ? 0 : 5 + below(4); break;
+    case 1: *powers = large(*powers); break;
+    case 2: *k = chance(2) ? 0 : (uint32_t)*columns + 1; break;
+    case 3: *k = large(*k); break;
+    case 4: *k = (uint32_t)*columns; break;
+    case 5: *k = 1 + below(n); break;                 /* now and then too long for its powers */
+    case 6: *k = ((uint32_t)n - 1) / *powers + 1; break; /* now and then the largest length is n */
+    case 7: *powers = 0xFFFFFFFFu, *k = chance(2) ? 0 : 0xFFFFFFFFu; break;
+    case 8: *k = 0xFFFFFFFFu - below(3); break;
+    case 9: *powers = chance(2) ? 0 : 5, *k = chance(2) ? 0 : (uint32_t)*columns + 1; break;
+    default: break;
+    }
+    return degree;
+}
+
+/* What was received, from the codeword of a message, and now and then any symbols. */
+static void receive(uint32_t degree, uint32_t k, size_t columns, uint32_t limit, unsigned symbols)
+{
+    uint8_t length = (uint8_t)k;
+    fill(&first, k <= columns ? k : 0, symbols);
+    fill(&second, columns, 256);
+    if (k > columns
+        || second_mark_encode(degree, &length, 1, own(&points, 0), columns, own(&factors, 0), factors.length, own(&first, 0),
+                              first.length, own(&second, 0), columns)
+               != 256) {
+        fill(&second, columns, symbols);
+        return;
+    }
+    unsigned most = limit < 96 ? limit : 96, wrong = chance(3) ? below(most + 2) : most + below(2);
+    for (; wrong; wrong--)
+        own(&second, 0)[below((unsigned)columns)] = (uint8_t)(chance(8) ? 0 : below(symbols));
+    if (chance(12))
+        fill(&second, columns, symbols);
+    both(&second);
+}
+
+static void count_powers(uint32_t answer, uint32_t k, uint32_t powers, size_t columns)
+{
+    count_decoding(POWERED, answer);
+    int refused = gren_code(answer) == GREN_REFUSED;
+    if (!refused)
+        tried.powers[powers]++;
+    tried.beyond_half += gren_code(answer) == GREN_CORRECTED && 2 * gren_detail(answer) > columns - k;
+    tried.twenty_before_four += answer == GREN_BAD_POWERS && (k < 1 || k > columns);
+    tried.large_numbers += refused && (k > 255 || powers > 255);
+}
+
+/* The library against the second program, and with one power against the decoding of the row. */
+static int compare_powers(void)
+{
+    size_t columns;
+    uint32_t k, powers, degree = random_row(&k, &powers, &columns), limit, a, b;
+    unsigned symbols = degree == 2 || degree == 4 ? 1u << degree : 256, joint = 0;
+    uint8_t ks[4] = {0}, length = (uint8_t)k;
+    static struct buffer lent_first, lent_flags;
+    static uint8_t lent_space[sizeof space[0]];
+    if (powers >= 1 && powers <= 4 && k >= 1 && columns <= 96 && k <= columns && powers * (k - 1) + 1 <= columns) {
+        second_power_lengths(k, powers, ks);
+        joint = second_joint_limit(ks, powers, columns);
+    }
+    limit = chance(4) ? below(joint + 1) : joint;
+    if (columns > 20 && limit > 3)
+        limit = 1 + below(3);
+    if (chance(30))
+        limit = joint + 1 + below(chance(2) ? 1 : 300);
+    receive(degree, k, columns, limit, symbols);
+    spoil_symbol(&second, degree);
+    fill_space();
+    second.length = spoil_length(columns);
+    fill(&first, spoil_length(columns), 256);
+    fill(&flags, spoil_length(columns), 256);
+    lent_first = first, lent_flags = flags;
+    memcpy(lent_space, space[0], sizeof space[0]);
+    a = gren_mark_decode_powers(degree, k, powers, own(&points, 0), columns, own(&factors, 0), factors.length, limit, own(&second, 0),
+                                second.length, own(&first, 0), first.length, own(&flags, 0), flags.length, space[0] + GUARD,
+                                space_length);
+    b = second_mark_decode_powers(degree, k, powers, own(&points, 1), columns, own(&factors, 1), factors.length, limit,
+                                  own(&second, 1), second.length, own(&first, 1), first.length, own(&flags, 1), flags.length,
+                                  space[1] + GUARD, space_length);
+    count_powers(a, k, powers, columns);
+    if (!same("decoding by powers", a, b))
+        return 0;
+    if (powers != 1 || k > 255)
+        return 1;
+    memcpy(first.all[1], lent_first.all[1], sizeof first.all[1]);
+    memcpy(flags.all[1], lent_flags.all[1], sizeof flags.all[1]);
+    memcpy(space[1], lent_space, sizeof space[1]);
+    b = gren_mark_decode(degree, &length, 1, own(&points, 1), columns, own(&factors, 1), factors.length, limit, own(&second, 1),
+                         second.length, own(&first, 1), first.length, own(&flags, 1), flags.length, space[1] + GUARD, space_length);
+    tried.single_rows++;
+    return same("one power and the row alone", a, b);
+}
+
 /* ---- all */
 
 static unsigned long count = 20000;
@@ -665,11 +776,13 @@ static void make_dirt(void)
 
 static int print_counts(void)
 {
-    static const char *const names[KINDS] = {"marks", "rings", "marks with lost columns", "rings with lost sectors"};
+    static const char *const names[KINDS] = {"marks", "rings", "marks with lost columns", "rings with lost sectors",
+                                               "rows read by their powers"};
     static const uint8_t checks[KINDS][13] = {{1, 2, 3, 4, 18, 5, 6, 23, 7, 8, 9},
                                               {10, 11, 18, 5, 7, 8, 9},
                                               {1, 2, 3, 4, 18, 5, 6, 23, 7, 16, 17, 8},
-                                              {10, 11, 18, 5, 7, 16, 17, 8}};
+                                              {10, 11, 18, 5, 7, 16, 17, 8},
+                                              {1, 3, 20, 4, 18, 5, 6, 23, 7, 8}};
     int missing = 0;
     for (int kind = 0; kind < KINDS; kind++) {
         unsigned long *ends = tried.endings[kind];
@@ -703,7 +816,15 @@ static int print_counts(void)
         printf(" %u before %u: %lu", orders[i].answer, orders[i].other, tried.orders[i]);
         missing |= !tried.orders[i];
     }
-    printf("\n");
+    printf("\ncompare: powers");
+    for (unsigned power = 1; power < 5; power++) {
+        printf("%s %u: %lu", power > 1 ? "," : "", power, tried.powers[power]);
+        missing |= !tried.powers[power];
+    }
+    printf("; corrected beyond half the distance %lu, one power as the row alone %lu, 20 before 4 %lu, refused for a number above 255 "
+           "%lu\n",
+           tried.beyond_half, tried.single_rows, tried.twenty_before_four, tried.large_numbers);
+    missing |= !tried.beyond_half || !tried.single_rows || !tried.twenty_before_four || !tried.large_numbers;
     if (missing && count >= 20000)
         printf("compare: something was never tried: a count is 0\n");
     return missing && count >= 20000;
@@ -712,12 +833,14 @@ static int print_counts(void)
 /* Every other four of the cases. */
 static int compare_half(unsigned half)
 {
-    for (unsigned long i = 0; i < count + count / 2; i++) {
+    for (unsigned long i = 0; i < 2 * count; i++) {
         int ok;
         if (i / 4 % 2 != half)
             continue;
         start(seed + i + 1);
-        if (i >= count)
+        if (i >= count + count / 2)
+            ok = compare_powers();
+        else if (i >= count)
             ok = i % 3 == 0 ? compare_ring_lost() : compare_mark_lost();
         else
             ok = i % 4 == 0 ? compare_mark_coding() : i % 4 == 3 ? compare_ring() : compare_mark_decoding();
@@ -736,7 +859,8 @@ int main(int argc, char **argv)
     make_dirt();
     if (!in_halves(compare_half, (unsigned long *)&tried, sizeof tried / sizeof(unsigned long)))
         return 1;
-    printf("compare: %lu cases of seed %llu agree, and %lu with lost columns; encodings and readings done: %lu\n", count,
-           (unsigned long long)seed, count / 2, tried.done);
+    printf("compare: %lu cases of seed %llu agree, %lu with lost columns, and %lu rows read by their powers; encodings and readings "
+           "done: %lu\n",
+           count, (unsigned long long)seed, count / 2, count - count / 2, tried.done);
     return print_counts();
 }

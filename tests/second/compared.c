@@ -1,6 +1,6 @@
 /* The calls of the comparing program (crates/compared), and what it is to write: the named cases; then frames of random calls, right
- * and wrong ones, over all fields, then such with lost columns, all with factors of one; then such with factors. The answers are the
- * second program's, and in a named case they must be the expected ones.
+ * and wrong ones, over all fields, then such with lost columns, all with factors of one; then such with factors; then rows read by their
+ * powers. The answers are the second program's, and in a named case they must be the expected ones.
  *
  *   compared in|out FILE CASES
  */
@@ -8,7 +8,7 @@
 #include "frame.h"
 #include "random.h"
 
-enum { CALLS = 600, LOST_CALLS = 240, FACTOR_CALLS = 240 };
+enum { CALLS = 600, LOST_CALLS = 240, FACTOR_CALLS = 240, POWER_CALLS = 240 };
 
 /* A length that is right but now and then. */
 static size_t spoilt(size_t length)
@@ -196,11 +196,53 @@ static void ring_call(unsigned call)
         frame[SYMBOLS + below((unsigned)(call == 3 ? total : size))] = (uint8_t)next();
 }
 
+/* A row read by its powers: nearly always one that its length and number of powers allow. */
+static void powers_call(void)
+{
+    static const unsigned degrees[] = {2, 4, 8};
+    unsigned degree = degrees[below(3)], size = 1u << degree, columns = 2 + below(size < 12 ? size - 1 : 11), powers = 1 + below(4),
+             k = 1 + below((columns - 2) / powers + 1);
+    uint8_t ks[4], length = (uint8_t)k, message[385], row[97] = {0};
+    for (unsigned i = 0, used[256] = {0}; i < columns; i++) {
+        do
+            frame[POINTS + i] = (uint8_t)below(size);
+        while (used[frame[POINTS + i]]++);
+    }
+    if (chance(2))
+        random_factors(columns, size);
+    else
+        set_ones(columns);
+    second_power_lengths(k, powers, ks);
+    unsigned limit = second_joint_limit(ks, powers, columns);
+    if (chance(4))
+        limit = below(limit + 1);
+    random_symbols(size);
+    memcpy(message, frame + SYMBOLS, 385);
+    second_mark_encode(degree, &length, 1, frame + POINTS, columns, frame + FACTORS, columns, message, k, row, columns);
+    memcpy(frame + SYMBOLS, row, columns);
+    damage(columns, 1, 1, 0, 2 * limit, size);
+    frame[0] = MARK_POWERS;
+    set_number(1, chance(40) ? below(600) : degree);
+    set_number(3, chance(30) ? limit + 1 + below(300) : limit);
+    set_lengths(0, columns, columns, columns, columns);
+    set_number(K, chance(20) ? (chance(2) ? 0 : below(2) ? columns : 256 + k) : k);
+    set_number(POWERS, chance(20) ? (chance(2) ? 0 : chance(2) ? 5 : 256 + powers) : chance(10) ? 1 + below(4) : powers);
+    switch (below(40)) {
+    case 0: frame[7] = (uint8_t)(chance(2) ? 0 : 97); break;
+    case 1: frame[POINTS + below(columns)] = frame[POINTS]; break;
+    case 2: frame[SYMBOLS + below(columns)] = (uint8_t)next(); break;
+    default: break;
+    }
+    spoil_factors(columns, size);
+}
+
 static void random_call(unsigned i)
 {
     static const uint8_t marks[] = {0, 1, 2, MARK_LOST};
     memset(frame, 0, sizeof frame);
-    if (i >= CALLS + LOST_CALLS)
+    if (i >= CALLS + LOST_CALLS + FACTOR_CALLS)
+        powers_call();
+    else if (i >= CALLS + LOST_CALLS)
         mark_call(marks[i % 4], 1);
     else if (i % 3 == 2)
         ring_call(i < CALLS ? 3 + i / 3 % 3 : RING_LOST);
@@ -240,11 +282,13 @@ int main(int argc, char **argv)
     while (next_case(cases, expected))
         put(to, wants_input, expected);
     state = 0x2545F4914F6CDD1Du;
-    for (unsigned i = 0; i < CALLS + LOST_CALLS + FACTOR_CALLS; i++) {
+    for (unsigned i = 0; i < CALLS + LOST_CALLS + FACTOR_CALLS + POWER_CALLS; i++) {
         if (i == CALLS) /* from here each ending and each refusal comes about, of marks and of rings */
             state = 167 * 0x9E3779B97F4A7C15u;
         if (i == CALLS + LOST_CALLS) /* and from here each of marks with factors, the endings without lost columns and with them */
             state = 4 * 0x9E3779B97F4A7C15u;
+        if (i == CALLS + LOST_CALLS + FACTOR_CALLS) /* and from here each of rows read by their powers */
+            state = 51 * 0x9E3779B97F4A7C15u;
         random_call(i);
         put(to, wants_input, NULL);
     }

@@ -1,7 +1,7 @@
 /* Demand 3 seen to hold by a program that knows nothing of locators: all arrays over GF(4) with few columns and rows, all message
  * lengths, all sets of lost columns and all trial limits, against a search over sets of wrong columns, with factors of one; then
  * smaller arrays with all lists of factors. Then short lists of lost columns and of factors, good and bad, against the checks. A code
- * with a row as long as the mark is refused, whatever is lost.
+ * with a row as long as the mark is refused, whatever is lost. Then all rows, read by their powers, against a search over all codewords.
  *
  *   exhaustive [MOST]    arrays of up to MOST symbols (default 8: all with two rows of four)
  */
@@ -63,9 +63,9 @@ static unsigned size_of(unsigned set)
 }
 
 /* What was tried: arrays with no lost columns and with some, with factors of one and with others; lists that end as corrected, 16, 17,
- * 8 and 18; and calls with lists of factors that are done or corrected, 5, 6, 23 and 7. */
+ * 8 and 18; calls with lists of factors that are done or corrected, 5, 6, 23 and 7; and rows read by their powers, by their endings. */
 static struct {
-    unsigned long cases[2][2], lists[5], factors[5];
+    unsigned long cases[2][2], lists[5], factors[5], rows[5];
 } tried;
 
 static size_t most_symbols = 8;
@@ -311,6 +311,88 @@ static int check_factor_lists(const uint8_t *points, size_t n)
     return 1;
 }
 
+/* ---- rows read by their powers */
+
+/* The codeword of message number `message`, and in how many symbols it differs from y. */
+static unsigned wrong_symbols(unsigned k, const uint8_t *points, size_t n, unsigned message, const uint8_t *y, uint8_t *word)
+{
+    uint8_t length = (uint8_t)k, coefficients[MOST_COLUMNS];
+    unsigned wrong = 0;
+    for (unsigned i = 0; i < k; i++, message /= FIELD)
+        coefficients[i] = (uint8_t)(message % FIELD);
+    second_mark_encode(DEGREE, &length, 1, points, n, factors, n, coefficients, k, word, n);
+    for (size_t i = 0; i < n; i++)
+        wrong += word[i] != y[i];
+    return wrong;
+}
+
+/* The nearest codeword to y, and how far it is; with another as near, it is farther than all. */
+static unsigned nearest_word(unsigned k, const uint8_t *points, size_t n, const uint8_t *y, uint8_t *word, unsigned *distance)
+{
+    unsigned all = 1, count = 0;
+    uint8_t other[MOST_COLUMNS];
+    for (unsigned i = 0; i < k; i++)
+        all *= FIELD;
+    *distance = MOST_COLUMNS + 1;
+    for (unsigned message = 0; message < all; message++) {
+        unsigned wrong = wrong_symbols(k, points, n, message, y, other);
+        count = wrong < *distance ? 1 : count + (wrong == *distance);
+        if (wrong < *distance) {
+            *distance = wrong;
+            memcpy(word, other, n);
+        }
+    }
+    return count;
+}
+
+/* One row: the second program's answer, the only nearest codeword on "corrected", and no codeword within the limit on "none". */
+static int check_row(unsigned k, unsigned s, const uint8_t *points, size_t n, const uint8_t *y, unsigned limit, unsigned safe)
+{
+    uint8_t answer[2][MOST_COLUMNS], flags[2][MOST_COLUMNS], word[MOST_COLUMNS];
+    unsigned distance, near = nearest_word(k, points, n, y, word, &distance);
+    memset(answer, 0xEE, sizeof answer);
+    memset(flags, 0xEE, sizeof flags);
+    memset(space, 1, sizeof space);
+    uint32_t a = gren_mark_decode_powers(DEGREE, k, s, points, n, factors, n, limit, y, n, answer[0], n, flags[0], n, space,
+                                         sizeof space),
+             b = second_mark_decode_powers(DEGREE, k, s, points, n, factors, n, limit, y, n, answer[1], n, flags[1], n, space,
+                                           sizeof space);
+    int ok = a == b && !memcmp(answer[0], answer[1], sizeof answer[0]) && !memcmp(flags[0], flags[1], sizeof flags[0]);
+    if (gren_code(a) == GREN_CORRECTED)
+        ok &= near == 1 && gren_detail(a) == distance && distance <= limit && !memcmp(answer[0], word, n);
+    else
+        ok &= gren_code(a) != GREN_REFUSED && (distance > limit || (gren_code(a) != GREN_NONE && limit > safe));
+    tried.rows[gren_code(a)]++;
+    return ok;
+}
+
+/* All rows over GF(4) with up to four symbols, all k and s that pass, all limits, with factors of one and others. */
+static int check_rows(const uint8_t *points)
+{
+    static const uint8_t others[MOST_COLUMNS] = {2, 3, 1, 3};
+    for (unsigned with = 0; with < 2; with++) {
+        for (size_t i = 0; i < MOST_COLUMNS; i++)
+            factors[i] = with ? others[i] : 1;
+        for (size_t n = 2; n <= MOST_COLUMNS; n++)
+            for (unsigned s = 1; s <= 4; s++)
+                for (unsigned k = 1; s * (k - 1) + 1 < n; k++) {
+                    uint8_t ks[4], y[MOST_COLUMNS];
+                    second_power_lengths(k, s, ks);
+                    unsigned joint = second_joint_limit(ks, s, n), safe = second_safe_limit(ks, s, n);
+                    for (unsigned row = 0; row < 1u << 2 * n; row++)
+                        for (unsigned limit = 0; limit <= joint; limit++) {
+                            for (size_t i = 0; i < n; i++)
+                                y[i] = (uint8_t)(row >> 2 * i & 3);
+                            if (!check_row(k, s, points, n, y, limit, safe)) {
+                                printf("exhaustive: n %zu, k %u, %u powers, row %u, limit %u FAILED\n", n, k, s, row, limit);
+                                return 0;
+                            }
+                        }
+                }
+    }
+    return 1;
+}
+
 static int check_half(unsigned which)
 {
     static const uint8_t points[MOST_COLUMNS] = {2, 0, 3, 1};
@@ -327,7 +409,7 @@ static int check_half(unsigned which)
                     return 0;
             }
         }
-    return half || (check_factor_lists(points, 2) && check_factor_lists(points, 3));
+    return half ? check_rows(points) : check_factor_lists(points, 2) && check_factor_lists(points, 3);
 }
 
 int main(int argc, char **argv)
@@ -342,5 +424,7 @@ int main(int argc, char **argv)
            tried.lists[1], tried.lists[2], tried.lists[3], tried.lists[4]);
     printf("exhaustive: lists of factors: %lu done, refusals 5: %lu 6: %lu 23: %lu 7: %lu\n", tried.factors[0], tried.factors[1],
            tried.factors[2], tried.factors[3], tried.factors[4]);
+    printf("exhaustive: rows read by their powers: corrected %lu, none %lu, several %lu, hollow %lu, as the search over codewords says\n",
+           tried.rows[1], tried.rows[2], tried.rows[3], tried.rows[4]);
     return 0;
 }

@@ -18,7 +18,7 @@ static unsigned below(unsigned n)
     return n ? next() % n : 0;
 }
 
-static int chance(unsigned one_in)
+static inline int chance(unsigned one_in)
 {
     return below(one_in) == 0;
 }

@@ -50,6 +50,14 @@ unsigned second_quotient(unsigned degree, unsigned a, unsigned b)
     return second_product(degree, a, second_inverse(degree, b));
 }
 
+static unsigned raised(unsigned degree, unsigned a, unsigned n)
+{
+    unsigned p = 1;
+    while (n--)
+        p = second_product(degree, p, a);
+    return p;
+}
+
 static unsigned value(unsigned degree, const uint8_t *p, size_t count, unsigned x)
 {
     unsigned sum = 0, power = 1;
@@ -515,18 +523,72 @@ uint32_t second_mark_decode_lost(uint32_t degree, const uint8_t *lengths, size_t
     return endings_lost(degree, lengths, rows, points, columns, factors, limit, which, received, answer, flags);
 }
 
+/* ---- powers of one row */
+
+/* 'message lengths i(k−1)+1' */
+void second_power_lengths(unsigned k, unsigned powers, uint8_t *lengths)
+{
+    for (unsigned i = 1; i <= powers; i++)
+        lengths[i - 1] = (uint8_t)(i * (k - 1) + 1);
+}
+
+/* Checks 1, 3, 20, 4 and 18: 'the largest power length counts as k in 4 and 18'. */
+static unsigned powers_check(uint32_t degree, uint32_t k, uint32_t powers, size_t columns)
+{
+    if (bad_degree(degree))
+        return 1;
+    if (columns < 1 || columns > 96)
+        return 3;
+    if (powers < 1 || powers > 4)
+        return 20;
+    if (k < 1 || k > columns || powers * (k - 1) + 1 > columns)
+        return 4;
+    return k == columns || powers * (k - 1) + 1 == columns ? 18 : 0;
+}
+
+uint32_t second_mark_decode_powers(uint32_t degree, uint32_t k, uint32_t powers, const uint8_t *points, size_t columns,
+                                   const uint8_t *factors, size_t factor_count, uint32_t limit, const uint8_t *received,
+                                   size_t received_length, uint8_t *answer, size_t answer_length, uint8_t *flags,
+                                   size_t flags_length, uint8_t *space, size_t space_length)
+{
+    uint8_t lengths[4], one[96], rows[384], found[384], wrong[96];
+    unsigned number = powers_check(degree, k, powers, columns);
+    if (number)
+        return number;
+    if (!decoding_fits(columns, columns, received_length, answer_length, flags_length, space_length) || factor_count != columns)
+        return 5;
+    if (bad_points(degree, points, columns))
+        return 6;
+    if (bad_factors(degree, factors, columns))
+        return 23;
+    if (outside(degree, received, received_length))
+        return 7;
+    second_power_lengths(k, powers, lengths);
+    if (limit > second_joint_limit(lengths, powers, columns))
+        return 8;
+    memset(space, 0, SECOND_SPACE);
+    memset(one, 1, sizeof one);
+    /* 'raise each received symbol to the powers 1 to s, giving s rows'; 'Power rows use the factors' powers' */
+    for (unsigned i = 0; i < powers; i++)
+        for (size_t j = 0; j < columns; j++)
+            rows[i * columns + j] = (uint8_t)second_quotient(degree, raised(degree, received[j], i + 1), raised(degree, factors[j], i + 1));
+    uint32_t ending = endings(degree, lengths, powers, points, columns, one, limit, rows, found, wrong);
+    if (ending / 256 != 1)
+        return ending;
+    /* 'then the first row is returned': its wrong symbols are flagged and counted */
+    ending = 256;
+    for (size_t j = 0; j < columns; j++) {
+        answer[j] = (uint8_t)second_product(degree, factors[j], found[j]);
+        flags[j] = answer[j] != received[j];
+        ending += flags[j];
+    }
+    return ending;
+}
+
 /* ---- rings */
 
 /* 'Rings keep factors of one' */
 static const uint8_t ones[16] = {1, 1, 1, 1, 1, 1, 1, 1, 1, 1, 1, 1, 1, 1, 1, 1};
-
-static unsigned raised(unsigned degree, unsigned a, unsigned n)
-{
-    unsigned p = 1;
-    while (n--)
-        p = second_product(degree, p, a);
-    return p;
-}
 
 /* The points of the curve in order; both lists have q³ entries. */
 static void ring_points(unsigned q, uint8_t *xs, uint8_t *ys)

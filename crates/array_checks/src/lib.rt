@@ -9,7 +9,7 @@ ghost use Rattle.refusal.specs.Refusal.{_when_, badDegree, badPoints, first, so
 ghost use Rattle.poly.specs.Poly.{All};
 ghost use Rattle.codes.specs.Code.{codeOf, jointLimit, largest, total};
 ghost use Rattle.codes.specs.Factors.{descriptionOf};
-ghost use Rattle.codes.specs.Checks.{arrayChecks, badFactors, bufferChecks, codeChecks, shapeChecks};
+ghost use Rattle.codes.specs.Checks.{arrayChecks, badFactors, bufferChecks, codeChecks, receivedChecks, shapeChecks};
 ghost use Rattle.codes.specs.Checks.{encodeChecks, lostChecks, readChecks, remainingChecks};
 ghost use Rattle.array_checks.specs.Working.{Sizes};
 use field::tables;
@@ -250,6 +250,66 @@ pub fn read_refusal(
     buffers_refusal(degree, lengths, points, factors, room, array.len(), array)
 }
 
+// The first of the checks 5, 6, 23 and 7 of decoding that applies, where arrays have so many cells; 0 where none does. Of the buffers for the answer, the flags and the working space the checks read the lengths alone.
+fn lent_refusal(
+    cells: usize,
+    degree: u32,
+    points: &[u8],
+    factors: &[u8],
+    ones: bool,
+    received: &[u8],
+    answer: usize,
+    flags: usize,
+    space: usize,
+) -> u8
+    requires { ⌜ badDegree degree ≡ false ⌝ }
+    requires { ⌜ (ones ≡ true → All (λ (f : ℕ). f ≡ 1) (now factors)) ⌝ }
+    ensures { λ r. ⌜ ((ks a f w : List ℕ) → length a ≡ answer → length f ≡ flags → length w ≡ space
+        → r ≡ first (receivedChecks cells (descriptionOf degree (now (points .entry)) (now (factors .entry)) ks)
+        (now (received .entry)) a f w)) ⌝ }
+{
+    let n = points.len();
+    if (received.len() != cells)
+        | (answer != cells)
+        | (flags != n)
+        | (space < SPACE)
+        | (factors.len() != n)
+    {
+        return 5;
+    }
+    contents_refusal(degree, points, factors, ones, received)
+}
+
+// For the crates above: the first of the checks 5, 6, 23 and 7 of decoding that applies, where arrays have so many cells; 0 where none
+// does. Of the buffers for the answer, the flags and the working space the checks read the lengths alone.
+pub fn received_refusal(
+    cells: usize,
+    degree: u32,
+    points: &[u8],
+    factors: &[u8],
+    received: &[u8],
+    answer: usize,
+    flags: usize,
+    space: usize,
+) -> u8
+    requires { ⌜ badDegree degree ≡ false ⌝ }
+    ensures { λ r. ⌜ ((ks a f w : List ℕ) → length a ≡ answer → length f ≡ flags → length w ≡ space
+        → r ≡ first (receivedChecks cells (descriptionOf degree (now (points .entry)) (now (factors .entry)) ks)
+        (now (received .entry)) a f w)) ⌝ }
+{
+    lent_refusal(
+        cells,
+        degree,
+        points,
+        factors,
+        all_ones(factors),
+        received,
+        answer,
+        flags,
+        space,
+    )
+}
+
 // The first of the checks 1 to 7 of decoding that applies, 0 where none does. Of the buffers for the answer, the flags and the
 // working space the checks read the lengths alone.
 fn array_refusal(
@@ -272,17 +332,17 @@ fn array_refusal(
     if k != 0 {
         return k;
     }
-    let right = cells(lengths, points);
-    let n = points.len();
-    if (received.len() != right)
-        | (answer != right)
-        | (flags != n)
-        | (space < SPACE)
-        | (factors.len() != n)
-    {
-        return 5;
-    }
-    contents_refusal(degree, points, factors, ones, received)
+    lent_refusal(
+        cells(lengths, points),
+        degree,
+        points,
+        factors,
+        ones,
+        received,
+        answer,
+        flags,
+        space,
+    )
 }
 
 // For the crates above: the first of the checks 16, 17 and 8 that applies to lost columns of a code, of whatever degree; 0

@@ -8,7 +8,7 @@
 --   core-proper, core-counts, core-array    what holds of a code, and of an array, holds of what is left
 --   encoded-core        the code array of a message, over the remaining columns
 --   code-core           a code array leaves one; full-code, each is left by one, and core-code, by no other
---   core-none, core-of-none, none-remaining    with nothing lost everything is left, and the checks are those of decoding
+--   core-none, core-of-none, none-limit, none-remaining    with nothing lost everything is left, and the checks are those of decoding
 --   joint-same          the joint limit reads the points' number alone
 --   Remains             what 16, 17 and 8 leave; remains, from them
 --   PassedLost          what all checks leave; lost-passed, from them
@@ -224,17 +224,17 @@ unfolding badColumns someOutside repeated
 none-columns n = refl
 
 -- 'the case with nothing lost': the checks are those of decoding
-pub none-remaining : (D : Description) (τ : ℕ) (y a f w : List ℕ) → first (lostChecks D τ [] y a f w) ≡ first (decodeChecks D τ y a f w)
-none-remaining D τ y a f w = same-behind (arrayChecks D y a f w) (remainingChecks c τ []) _ tt
-    (λ e. miss 16 _ _ (none-columns (columns c))
-    ∙ miss 17 _ _ (ap (λ (d : Code). ltb (columns d) (largest (c .lengths))) (core-none c) ∙ le-ltb (columns c) _ (enough e))
-    ∙ ap (λ (d : Code). first ((8 when ltb (jointLimit d) τ) ∷ [])) (core-none c))
-  where
-    c : Code
-    c = D .code
+pub none-limit : (c : Code) (τ : ℕ) → Within 1 (columns c) (c .lengths)
+    → first (remainingChecks c τ []) ≡ first ((8 when ltb (jointLimit c) τ) ∷ [])
+none-limit c τ w =
+    miss 16 _ _ (none-columns (columns c))
+    ∙ miss 17 _ _ (ap (λ (d : Code). ltb (columns d) (largest (c .lengths))) (core-none c)
+    ∙ le-ltb (columns c) _ (largest-most (columns c) (c .lengths) w))
+    ∙ ap (λ (d : Code). first ((8 when ltb (jointLimit d) τ) ∷ [])) (core-none c)
 
-    enough : 0 ≡ first (arrayChecks D y a f w) → largest (c .lengths) ≤ columns c
-    enough e = largest-most (columns c) (c .lengths) (counted c _ e .0 .lengths)
+pub none-remaining : (D : Description) (τ : ℕ) (y a f w : List ℕ) → first (lostChecks D τ [] y a f w) ≡ first (decodeChecks D τ y a f w)
+none-remaining D τ y a f w = same-behind (arrayChecks D y a f w) (remainingChecks (D .code) τ []) _ tt
+    (λ e. none-limit (D .code) τ (counted (D .code) _ e .0 .lengths))
 
 -- what the checks leave
 

@@ -5,6 +5,7 @@
 --   Counts c              what the checks 1 to 4 leave; counted, from them and whatever checks follow; counts-of, from them alone
 --   PassedEncoding, PassedReading, PassedDecoding    what the checks of a call leave; encoding, reading, decoding, from them
 --   PassedArray           what 1 to 7 of decoding leave; arrays, from them; counts-of-array, of those what 1 to 4 leave
+--   code-passes, arrays-pass, decoding-passes    and the reverse: where that holds and no k equals n, no check applies
 -- Assumes nothing.
 use mathlib.Core.Path.{_≡_, refl, sym, ap, ap₂, _∙_}
 use mathlib.Core.Bool.{Bool, true, false, not}
@@ -14,15 +15,16 @@ use native.Mathlib.Nat.{suc-mul, mul-le-mul}
 use native.Mathlib.Omega.{arith}
 use lib.Dec.{eqb, ltb}
 use lib.ListN.{length, getD, replicate, length-replicate}
-use borrow.Author.Tests.{eq-eqb, eqb-true, ltb-false, not-false}
-use Rattle.refusal.specs.Refusal.{Check, _when_, first, badDegree, badPoints, someOutsideField}
+use borrow.Author.Tests.{eq-eqb, eqb-true, le-ltb, ltb-false, not-false}
+use Rattle.refusal.specs.Refusal.{Check, _when_, first, badDegree, outside, badPoints, someOutsideField}
 use Rattle.refusal.proofs.Laws.{within}
-use Rattle.refusal.proofs.Ladders.{clear}
+use Rattle.refusal.proofs.Ladders.{clear, miss, miss-last}
 use Rattle.field.proofs.Instance.{field}
 use Rattle.codes.specs.Code.{Code, columns, rows, total, largest, IsMessage, IsArray, jointLimit}
 use Rattle.codes.specs.Factors.{Description}
-use Rattle.codes.specs.Checks.{codeChecks, badFactors, wrongLength, spaceBytes, encodeChecks, readChecks, arrayChecks, decodeChecks}
-use Rattle.codes.proofs.Proper.{Within, Proper, neither, lengths-test, proper, array, message}
+use Rattle.codes.specs.Checks.{unchecked, codeChecks, badFactors, wrongLength, spaceBytes, encodeChecks, readChecks}
+use Rattle.codes.specs.Checks.{arrayChecks, decodeChecks}
+use Rattle.codes.proofs.Proper.{Within, Proper, neither, lengths-test, symbols-test, points-test, proper, array, message}
 use Rattle.codes.proofs.Factors.{Factors, factors-test}
 
 pub total-most : (n : ℕ) (ks : List ℕ) → Within 1 n ks → total ks ≤ length ks * n
@@ -115,7 +117,7 @@ right-length n l e = eqb-true (length l) n (not-false _ e)
 pub is-right : (n : ℕ) (l : List ℕ) → length l ≡ n → wrongLength n l ≡ false
 is-right n l e = ap not (eq-eqb (length l) n e)
 
-factors-of : (D : Description) → wrongLength (columns (D .code)) (D .factors) ≡ false → badFactors (D .code .degree) (D .factors) ≡ false
+pub factors-of : (D : Description) → wrongLength (columns (D .code)) (D .factors) ≡ false → badFactors (D .code .degree) (D .factors) ≡ false
     → Factors D
 factors-of D l e = record { count = right-length _ (D .factors) l; symbols = factors-test (D .code .degree) (D .factors) .0 e }
 
@@ -203,6 +205,42 @@ pub decoding : (D : Description) (τ : ℕ) (y a f w : List ℕ) → 0 ≡ first
 decoding D τ y a f w e =
     let (array, factors, rest) = arrays D y a f w _ e in
     (record { array = array; limit = ltb-false (jointLimit (D .code)) τ (clear 7 _ _ rest .0) }, factors)
+
+-- the reverse
+
+inside : (lo hi n : ℕ) → lo ≤ n → n ≤ hi → outside lo hi n ≡ false
+unfolding outside
+inside lo hi n l h = neither _ _ .1 (le-ltb n lo l, le-ltb hi n h)
+
+pub code-passes : (c : Code) (ds : List Check) → Counts c → unchecked c ≡ false → first (codeChecks c ++ ds) ≡ first ds
+code-passes c ds h u =
+    miss 1 _ _ (h .degree)
+    ∙ miss 2 _ _ (inside 1 4 (rows c) (h .some-rows) (h .most-rows))
+    ∙ miss 3 _ _ (inside 1 96 (columns c) (h .some-columns) (h .most-columns))
+    ∙ miss 4 _ _ (lengths-test 1 (columns c) (c .lengths) .1 (h .lengths))
+    ∙ miss 18 _ _ u
+
+module _ (D : Description) (h : Factors D) {y a f w : List ℕ} (p : PassedArray (D .code) y a f w) (u : unchecked (D .code) ≡ false) where
+  pub arrays-pass : (ds : List Check) → first (arrayChecks D y a f w ++ ds) ≡ first ds
+  arrays-pass ds =
+      code-passes (D .code) _ (p .counts) u
+      ∙ miss 5 _ _ (neither _ (wrongLength (columns (D .code)) (D .factors)) .1 (
+        neither _ (ltb (length w) spaceBytes) .1 (
+          neither _ (wrongLength (columns (D .code)) f) .1 (
+            neither (wrongLength (rows (D .code) * columns (D .code)) y) _ .1
+                (is-right _ y (p .received .count), is-right _ a (p .answer)),
+            is-right _ f (p .flags),
+          ),
+          le-ltb (length w) spaceBytes (p .space),
+        ),
+        is-right _ (D .factors) (h .count),
+      ))
+      ∙ miss 6 _ _ (points-test (D .code .degree) (D .code .points) .1 (p .proper .symbols, p .proper .distinct))
+      ∙ miss 23 _ _ (factors-test (D .code .degree) (D .factors) .1 (h .symbols))
+      ∙ miss 7 _ _ (symbols-test (D .code .degree) y .1 (p .received .symbols))
+
+  pub decoding-passes : {τ : ℕ} → τ ≤ jointLimit (D .code) → first (decodeChecks D τ y a f w) ≡ 0
+  decoding-passes {τ} l = arrays-pass _ ∙ miss-last 8 _ (le-ltb (jointLimit (D .code)) τ l)
 
 -- a test of a length, where the code has the length and the right one as numbers
 pub as-tested : {x n n′ : ℕ} (l : List ℕ) → length l ≡ x → n′ ≡ n → wrongLength n l ≡ not (eqb x n′)

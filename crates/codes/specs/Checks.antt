@@ -6,7 +6,7 @@
 --   badFactors d fs       the test of number 23
 --   encodeChecks, readChecks, decodeChecks    'Encoding checks 1 to 7, reading 1 to 7 then 9, decoding 1 to 8.' 02, 2026-11, has 23
 --                         between 6 and 7
---   arrayChecks           1 to 7 of decoding
+--   receivedChecks        5, 6, 23 and 7 of decoding; arrayChecks, 1 to 7 of it
 --   remainingChecks       16, 17 and 8 of a decoding with lost columns; lostChecks, all of them
 use mathlib.Core.Bool.{Bool, not, _||_}
 use mathlib.Core.List.{List, [], _∷_, _++_}
@@ -64,15 +64,18 @@ encodeChecks D m a = codeChecks (D .code) ++ bufferChecks D m a m
 abbrev pub readChecks : Description → List ℕ → List ℕ → List Check
 readChecks D a m = codeChecks (D .code) ++ bufferChecks D m a a
 
-abbrev pub arrayChecks : Description → List ℕ → List ℕ → List ℕ → List ℕ → List Check
-arrayChecks D y a f w =
-    codeChecks (D .code)
-    ++ (5 when wrongLength (rows (D .code) * columns (D .code)) y || wrongLength (rows (D .code) * columns (D .code)) a
+-- where arrays have so many cells
+abbrev pub receivedChecks : (cells : ℕ) → Description → List ℕ → List ℕ → List ℕ → List ℕ → List Check
+receivedChecks cells D y a f w =
+    (5 when wrongLength cells y || wrongLength cells a
     || wrongLength (columns (D .code)) f || ltb (length w) spaceBytes || wrongLength (columns (D .code)) (D .factors))
     ∷ (6 when badPoints (D .code .degree) (D .code .points))
     ∷ (23 when badFactors (D .code .degree) (D .factors))
     ∷ (7 when someOutsideField (D .code .degree) y)
     ∷ []
+
+abbrev pub arrayChecks : Description → List ℕ → List ℕ → List ℕ → List ℕ → List Check
+arrayChecks D y a f w = codeChecks (D .code) ++ receivedChecks (rows (D .code) * columns (D .code)) D y a f w
 
 abbrev pub decodeChecks : Description → ℕ → List ℕ → List ℕ → List ℕ → List ℕ → List Check
 decodeChecks D τ y a f w = arrayChecks D y a f w ++ (8 when ltb (jointLimit (D .code)) τ) ∷ []

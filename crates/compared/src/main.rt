@@ -2,7 +2,7 @@
 // of 610 bytes; numbers of two bytes have the low one first:
 //
 //   0           0, 1, 2 for encoding, reading and decoding a mark; 3, 4, 5 for a ring; 6 for decoding a ring with lost sectors, and 7
-//               a mark with lost columns
+//               a mark with lost columns; 8 for decoding a row by its powers
 //   1, 2        the degree, or q
 //   3, 4        the trial limit
 //   5, 6        a ring's m
@@ -10,7 +10,7 @@
 //   8, 9        how many symbols there are, at most 385
 //   10, 11      how long the result's buffer is, at most 385
 //   12, 13      how many flags are lent, at most 97, and how many bytes of working space, less 49,144
-//   14 to 20    the lengths
+//   14 to 20    the lengths; of a row read by its powers, k in 14 and 15 and the number of powers in 16 and 17
 //   21 to 117   the points
 //   118 to 502  the symbols
 //   503         how many lost columns there are, at most 8
@@ -181,7 +181,32 @@ fn ring(
     firmware::gren_ring_decode_lost(q, m, limit, lost, input, result, flags, space)
 }
 
-// The call of a frame.
+// The call on a row that is read by its powers.
+fn powers(frame: &[u8], result: &mut [u8], flags: &mut [u8], space: &mut [u8]) -> u32
+    requires { ⌜ length (now frame) ≡ 610 ⌝ }
+{
+    let degree = number(frame, 1);
+    let limit = number(frame, 3);
+    let k = number(frame, 14);
+    let count = number(frame, 16);
+    let points = part(frame, 21, few(frame, 7, 97));
+    let factors = part(frame, 513, few(frame, 512, 97));
+    let input = part(frame, 118, many(frame, 8, 385));
+    firmware::gren_mark_decode_powers(
+        degree,
+        k,
+        count,
+        points,
+        factors,
+        limit,
+        input,
+        result,
+        flags,
+        space,
+    )
+}
+
+// The call of a frame, on anything else.
 fn made(frame: &[u8], result: &mut [u8], flags: &mut [u8], space: &mut [u8]) -> u32
     requires { ⌜ length (now frame) ≡ 610 ⌝ }
 {
@@ -221,11 +246,21 @@ fn made(frame: &[u8], result: &mut [u8], flags: &mut [u8], space: &mut [u8]) -> 
     )
 }
 
+// The call of a frame.
+fn called(frame: &[u8], result: &mut [u8], flags: &mut [u8], space: &mut [u8]) -> u32
+    requires { ⌜ length (now frame) ≡ 610 ⌝ }
+{
+    if frame[0] == 8 {
+        return powers(frame, result, flags, space);
+    }
+    made(frame, result, flags, space)
+}
+
 // Makes the call of a frame, and shows what it leaves.
 fn shown(frame: &[u8], result: &mut [u8], flags: &mut [u8], space: &mut [u8])
     requires { ⌜ length (now frame) ≡ 610 ⌝ }
 {
-    let r = made(frame, result, flags, space);
+    let r = called(frame, result, flags, space);
     show(r, result, flags, space);
 }
 

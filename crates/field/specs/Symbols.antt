@@ -5,6 +5,7 @@
 --   modulus d        the reducing polynomial, bit i for x^i: the one place where the three stand
 --   timesX d c       x times c
 --   times d a b      the product
+--   raised d a n     a to the power n
 --   Quotient d a b c    c is the quotient of a by b; over d a b, where b is not zero
 use Prim.Native.Nat.{ℕ, zero, suc, _-_, _*_, _/_, _%_, _^_, _<_}
 use mathlib.Core.Path.{_≡_}
@@ -36,6 +37,10 @@ timesLow d (suc n) a b = plus (a % 2 * b) (timesX d (timesLow d n (a / 2) b))
 -- 'multiplication is of polynomials over GF(2), bit i for x^i, reduced by' the polynomial. Only the d low bits of a and b count.
 unfoldable pub times : ℕ → ℕ → ℕ → ℕ
 times d a b = timesLow d d a (b % 2 ^ d)
+
+unfoldable pub raised : ℕ → ℕ → ℕ → ℕ
+raised d a zero = 1
+raised d a (suc n) = times d a (raised d a n)
 
 -- 02, 2026-02: the quotient of a by b, which is not zero, is the symbol c with c·b = a
 pub record Quotient (d a b c : ℕ) : Type 0 where

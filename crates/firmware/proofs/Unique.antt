@@ -2,8 +2,8 @@
 -- call is given.
 --
 --   returns-unique    where no two ends of the call keep its promise, neither do two numbers
---   mark-encode, mark-read, mark-decode, ring-encode, ring-read, ring-decode, mark-decode-lost, ring-decode-lost, tray-decode    so of each
---                     function
+--   mark-encode, mark-read, mark-decode, ring-encode, ring-read, ring-decode, mark-decode-lost, ring-decode-lost, mark-decode-powers,
+--   tray-decode       so of each function
 -- Assumes nothing.
 use mathlib.Core.Path.{_≡_, sym, ap, _∙_}
 use mathlib.Core.List.{List}
@@ -20,6 +20,8 @@ use Rattle.joint.specs.Promises as joint
 use Rattle.joint.proofs.Unique as joint-unique
 use Rattle.joint.specs.Lost as joint-lost
 use Rattle.joint.proofs.LostDemands as joint-losing
+use Rattle.powers.specs.Promises as powered
+use Rattle.powers.proofs.Unique as powers-unique
 use Rattle.tray.specs.Promises.{GivenTray, LeftTray, leftTray, DecodesTray}
 use Rattle.tray.proofs.Unique as tray-unique
 use Rattle.ring.specs.Promises as rings
@@ -101,6 +103,12 @@ pub ring-decode-lost : (L : List ℕ) (g : rings.Given) {r r′ : ℕ} {b b′ :
 ring-decode-lost L g =
     returns-unique endingMeaning (λ (e : Ending) (b : Kept). ring-lost.DecodesLost L g (ended e b))
     (λ e e′ b b′ h h′. ended-parts (ring-losing.unique L g (ended e b) (ended e′ b′) h h′))
+
+pub mark-decode-powers : (g : powered.Given) {r r′ : ℕ} {b b′ : Kept} → Returns endingMeaning (λ (e : Ending). powered.Decodes g (ended e b)) r
+    → Returns endingMeaning (λ (e : Ending). powered.Decodes g (ended e b′)) r′ → (r ≡ r′) × (b ≡ b′)
+mark-decode-powers g =
+    returns-unique endingMeaning (λ (e : Ending) (b : Kept). powered.Decodes g (ended e b))
+    (λ e e′ b b′ h h′. ended-parts (powers-unique.unique g (ended e b) (ended e′ b′) h h′))
 
 -- what a tray's decoding leaves in the slices lent to it
 abbrev pub KeptTray : Type 0

@@ -7,6 +7,7 @@ ghost use Rattle.mark.specs.Promises.{Encodes, Reads, left, meaning};
 ghost use Rattle.ending.specs.Endings.{meaning as endingMeaning};
 ghost use Rattle.joint.specs.Promises.{Decodes, buffers, given, left as ended};
 ghost use Rattle.joint.specs.Lost.{DecodesLost};
+ghost use Rattle.powers.specs.Promises as powered;
 ghost use Rattle.tray.specs.Promises.{DecodesTray, givenTray, leftTray};
 ghost use Rattle.ring.specs.Promises as rings;
 ghost use Rattle.ring.specs.Lost as ring-lost;
@@ -125,6 +126,39 @@ pub extern "C" fn gren_mark_decode_lost(
         factors,
         limit,
         lost,
+        received,
+        answer,
+        flags,
+        space,
+    ))
+}
+
+// Decodes a received row as so many powers of it.
+#[no_mangle]
+pub extern "C" fn gren_mark_decode_powers(
+    degree: u32,
+    k: u32,
+    powers: u32,
+    points: &[u8],
+    factors: &[u8],
+    limit: u32,
+    received: &[u8],
+    answer: &mut [u8],
+    flags: &mut [u8],
+    space: &mut [u8],
+) -> u32
+    ensures { λ r. ⌜ Returns endingMeaning (λ e. powered.Decodes
+        (powered.given degree k powers (now (points .entry)) (now (factors .entry)) limit (now (received .entry))
+        (buffers (now (answer .entry)) (now (flags .entry))) (now (space .entry)))
+        (ended e (buffers (now (answer .exit)) (now (flags .exit))) (now (space .exit)))) r ⌝ }
+{
+    pack(powers::decode(
+        degree,
+        k,
+        powers,
+        points,
+        factors,
+        limit,
         received,
         answer,
         flags,

@@ -5,10 +5,10 @@
 -- Assumes nothing.
 use mathlib.Core.Path.{_≡_, refl}
 use mathlib.Core.List.{[], _∷_, flatMap}
-use Rattle.field.specs.Symbols.{plus, modulus, timesX, timesLow, times}
+use Rattle.field.specs.Symbols.{plus, modulus, timesX, timesLow, times, raised}
 use Rattle.poly.specs.Poly.{value}
 use Rattle.codes.specs.Code.{total, largest, jointLimit, safeLimit}
-use Rattle.hermitian.specs.Ring.{numbers, raised, onCurve, those, sector, ringPoints}
+use Rattle.hermitian.specs.Ring.{numbers, onCurve, those, sector, ringPoints}
 use Rattle.hermitian.specs.Ring.{ringLength, ringLengths, ringCode, valueAt, ringWord}
 
 -- 'H(37) for q=4 has lengths 10, 9, 7, 6 and joint limit 6 but safe limit 3'

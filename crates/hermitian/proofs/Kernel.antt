@@ -21,7 +21,7 @@ use lib.Seq.{ext-getD}
 use borrow.Author.Tests.{eq-eqb, ne-eqb}
 use Rattle.patch.specs.Parts.{part}
 use Rattle.patch.proofs.Parts.{getD-part}
-use Rattle.field.specs.Symbols.{plus, modulus, timesX, timesLow, times}
+use Rattle.field.specs.Symbols.{plus, modulus, timesX, timesLow, times, raised}
 use Rattle.field.specs.Arithmetic.{gf}
 use Rattle.field.proofs.Laws.{Field}
 use Rattle.field.proofs.Products.{allBelow, below}
@@ -29,7 +29,7 @@ use Rattle.poly.specs.Poly.{value, valuesAt}
 use Rattle.poly.proofs.Ring.{zero-plus, plus-zero, plus-assoc, plus-left-comm, times-zero, times-comm, times-plus, times-left-comm}
 use Rattle.poly.proofs.Ring.{one-times}
 use Rattle.rows.proofs.Symbols.{symbol-at, symbols-by}
-use Rattle.hermitian.specs.Ring.{numbers, raised, onCurve, those, sector, column, ringOf, IsRing, ArrayOf}
+use Rattle.hermitian.specs.Ring.{numbers, onCurve, those, sector, column, ringOf, IsRing, ArrayOf}
 use Rattle.hermitian.specs.Checks.{badSize}
 use Rattle.hermitian.proofs.Numbers.{map-at, flat-cong, flat-parts, length-column, column-at, part-fits}
 use Rattle.hermitian.proofs.Sizes.{each, sides, sectors}

@@ -12,8 +12,8 @@ use mathlib.Core.List.{List, _++_}
 use Prim.Native.Nat.{ℕ, _*_, _≤_}
 use lib.Dec.{ltb}
 use lib.ListN.{length, length-replicate}
-use borrow.Author.Tests.{ltb-false, le-ltb}
-use Rattle.refusal.specs.Refusal.{Check, first, outside, someOutsideField}
+use borrow.Author.Tests.{ltb-false}
+use Rattle.refusal.specs.Refusal.{Check, first, someOutsideField}
 use Rattle.refusal.proofs.Ladders.{miss, clear}
 use Rattle.field.specs.Symbols.{IsSymbol}
 use Rattle.poly.specs.Poly.{All}
@@ -21,10 +21,10 @@ use Rattle.codes.specs.Code.{Code, rows, columns, total, IsMessage}
 use Rattle.codes.specs.Checks.{unchecked, codeChecks, wrongLength, spaceBytes, remainingChecks}
 use Rattle.codes.specs.Checks as Mark
 use Rattle.codes.specs.Factors.{ones, plain}
-use Rattle.codes.proofs.Proper.{neither, symbols-test, lengths-test, message}
-use Rattle.codes.proofs.Passed.{right-length, is-right, Counts}
+use Rattle.codes.proofs.Proper.{neither, symbols-test, message}
+use Rattle.codes.proofs.Passed.{right-length, is-right, code-passes, arrays-pass}
 use Rattle.codes.proofs.Lost.{Remains, remains}
-use Rattle.codes.proofs.Factors.{each-one, ones-pass}
+use Rattle.codes.proofs.Factors.{each-one, ones-pass, ones-factors}
 use Rattle.hermitian.specs.Ring.{ringLengths, ringCode, IsRing}
 use Rattle.hermitian.specs.Checks.{badSize, badOrder, ringChecks, bufferChecks, encodeChecks, readChecks, wordChecks, lostChecks}
 use Rattle.hermitian.proofs.Numbers.{length-numbers}
@@ -125,28 +125,12 @@ reads-on {q} {m} p f w h l =
 
 -- ---- the checks of the call on the array
 
-inside : (lo hi n : ℕ) → lo ≤ n → n ≤ hi → outside lo hi n ≡ false
-unfolding outside
-inside lo hi n l h = neither _ _ .1 (le-ltb n lo l, le-ltb hi n h)
-
--- the checks 1 to 4 and 18 of a code whose counts are within the limits, and whose rows have check symbols, do not apply
-counted : (c : Code) (ds : List Check) → Counts c → unchecked c ≡ false → first (codeChecks c ++ ds) ≡ first ds
-counted c ds h u =
-    miss 1 _ _ (h .degree)
-    ∙ miss 2 _ _ (inside 1 4 (rows c) (h .some-rows) (h .most-rows))
-    ∙ miss 3 _ _ (inside 1 96 (columns c) (h .some-columns) (h .most-columns))
-    ∙ miss 4 _ _ (lengths-test 1 (columns c) (c .lengths) .1 (h .lengths))
-    ∙ miss 18 _ _ u
-
 module _ {q m : ℕ} (p : Passed q m) where
   onward : (ds : List Check) → first (codeChecks (ringCode q m) ++ ds) ≡ first ds
-  onward ds = counted (ringCode q m) ds (ring-counts q m (p .size) (p .order)) (p .checked)
+  onward ds = code-passes (ringCode q m) ds (ring-counts q m (p .size) (p .order)) (p .checked)
 
   right-cells : (a : List ℕ) → length a ≡ q * q * q → wrongLength (rows (ringCode q m) * columns (ringCode q m)) a ≡ false
   right-cells a e = is-right _ a (e ∙ sym (ring-cells q m))
-
-  right-columns : (f : List ℕ) → length f ≡ q * q → wrongLength (columns (ringCode q m)) f ≡ false
-  right-columns f e = is-right _ f (e ∙ sym (length-numbers (q * q)))
 
   -- 'Rings keep factors of one'
   right-factors : wrongLength (columns (ringCode q m)) (ones (columns (ringCode q m))) ≡ false
@@ -181,20 +165,16 @@ to-read {f = f} p a h = buffers-pass (p .ring) f a a (p .message) (h .count) (h 
 pub to-array : {q m : ℕ} → Passed q m → (a b f s : List ℕ) → IsRing q a → length b ≡ q * q * q → length f ≡ q * q → spaceBytes ≤ length s
     → (ds : List Check) → first (Mark.arrayChecks (plain (ringCode q m)) a b f s ++ ds) ≡ first ds
 to-array {q} {m} p a b f s h k l z ds =
-    onward p _
-    ∙ miss 5 _ _ (neither _ (wrongLength _ (ones (columns (ringCode q m)))) .1 (
-      neither _ (ltb (length s) spaceBytes) .1 (
-        neither _ (wrongLength (columns (ringCode q m)) f) .1 (
-          neither (wrongLength (rows (ringCode q m) * columns (ringCode q m)) a) _ .1 (right-cells p a (h .count), right-cells p b k),
-          right-columns p f l,
-        ),
-        le-ltb (length s) spaceBytes z,
-      ),
-      right-factors p,
-    ))
-    ∙ miss 6 _ _ (tested q (p .size) .points)
-    ∙ miss 23 _ _ (no-bad-factor p)
-    ∙ miss 7 _ _ (symbols-test q a .1 (h .symbols))
+    let c : Code = ringCode q m in
+    let proper = ring-proper q m (p .size) (p .order) in
+    arrays-pass (plain c) (ones-factors c proper) {y = a} {a = b} {f = f} {w = s} (record {
+      counts = ring-counts q m (p .size) (p .order);
+      proper = proper;
+      received = record { count = h .count ∙ sym (ring-cells q m); symbols = h .symbols };
+      answer = k ∙ sym (ring-cells q m);
+      flags = l ∙ sym (length-numbers (q * q));
+      space = z;
+    }) (p .checked) ds
 
 pub to-lose : {q m τ : ℕ} {L y w f s : List ℕ} → PassedLost q m τ L y w f s → (a b : List ℕ) → IsRing q a → length b ≡ q * q * q
     → first (Mark.lostChecks (plain (ringCode q m)) τ L a b f s) ≡ 0

@@ -23,7 +23,7 @@ use lib.ListN.{length, length-map}
 use borrow.Author.Tests.{eq-eqb, ne-eqb, le-leb, lt-leb}
 use Rattle.refusal.specs.Refusal.{badDegree, outsideField, someOutsideField, isIn, repeated, badPoints}
 use Rattle.refusal.proofs.Laws.{within}
-use Rattle.field.specs.Symbols.{plus, modulus, timesX, timesLow, times}
+use Rattle.field.specs.Symbols.{plus, modulus, timesX, timesLow, times, raised}
 use Rattle.field.proofs.Products.{allBelow, below, both}
 use Rattle.field.proofs.Instance.{field}
 use Rattle.poly.specs.Poly.{All}
@@ -31,7 +31,7 @@ use Rattle.rows.specs.Working.Rows.{Points}
 use Rattle.codes.specs.Checks.{unchecked}
 use Rattle.codes.proofs.Proper.{Within, Proper, points-test}
 use Rattle.codes.proofs.Passed.{Counts, total-most}
-use Rattle.hermitian.specs.Ring.{numbers, raised, onCurve, those, sector, ringPoints, ringLength, ringLengths, ringCode}
+use Rattle.hermitian.specs.Ring.{numbers, onCurve, those, sector, ringPoints, ringLength, ringLengths, ringCode}
 use Rattle.hermitian.specs.Checks.{badSize, badOrder}
 use Rattle.hermitian.proofs.Numbers.{length-numbers}
 

@@ -1,7 +1,6 @@
 -- Hermitian rings: 01, 'Hermitian rings'. q is 2 or 4; GF(q²) has 2 ^ q symbols and is the field of degree q.
 --
 --   numbers n            0, 1, …, n − 1
---   raised d a n         a to the power n
 --   onCurve q x y        the pair is a point of the ring
 --   sector q x           the y of the points of an x, in order
 --   ringPoints q         the points, in order
@@ -22,7 +21,7 @@ use mathlib.Core.List.{List, [], _∷_, _++_, map, flatMap}
 use Prim.Native.Nat.{ℕ, zero, suc, _+_, _-_, _*_, _/_}
 use lib.Dec.{eqb}
 use lib.ListN.{length, getD, take, drop}
-use Rattle.field.specs.Symbols.{IsSymbol, plus, times}
+use Rattle.field.specs.Symbols.{IsSymbol, plus, times, raised}
 use Rattle.field.specs.Arithmetic.{gf}
 use Rattle.poly.specs.Poly.{All, value, valuesAt}
 use Rattle.codes.specs.Code.{Code, codeOf, total, IsMessage, differs, flagsFrom}
@@ -30,10 +29,6 @@ use Rattle.codes.specs.Code.{Code, codeOf, total, IsMessage, differs, flagsFrom
 unfoldable pub numbers : ℕ → List ℕ
 numbers zero = []
 numbers (suc n) = numbers n ++ n ∷ []
-
-unfoldable pub raised : ℕ → ℕ → ℕ → ℕ
-raised d a zero = 1
-raised d a (suc n) = times d a (raised d a n)
 
 -- 'Over GF(q²), the points are the pairs with y^q + y = x^(q+1)'
 unfoldable pub onCurve : ℕ → ℕ → ℕ → Bool

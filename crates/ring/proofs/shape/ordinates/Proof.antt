@@ -4,8 +4,8 @@ use mathlib.Core.Path.{_≡_, refl}
 use mathlib.Core.Logic.{_⊎_, inl, inr}
 use mathlib.Core.List.{flatMap}
 use Prim.Native.Nat.{ℕ}
-use Rattle.field.specs.Symbols.{plus, modulus, timesX, timesLow, times}
-use Rattle.hermitian.specs.Ring.{numbers, raised, onCurve, those, sector}
+use Rattle.field.specs.Symbols.{plus, modulus, timesX, timesLow, times, raised}
+use Rattle.hermitian.specs.Ring.{numbers, onCurve, those, sector}
 use Rattle.hermitian.proofs.Sizes.{sizes}
 use borrow.Author.Needs.{needs}
 use Rattle.ring.proofs.shape.ordinates.Statement.{statement}

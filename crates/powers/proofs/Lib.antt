@@ -1,0 +1,10 @@
+pub mod Polynomials
+pub mod Sizes
+pub mod Rows
+pub mod Raising
+pub mod Lent
+pub mod Passed
+pub mod Corrected
+pub mod Ended
+pub mod Unique
+pub mod Demands

@@ -1,0 +1,4 @@
+pub mod Powers
+pub mod Checks
+pub mod Promises
+pub mod Working

@@ -1,0 +1,274 @@
+// One weak row read as several: its powers, decoded jointly.
+ghost use mathlib.Core.Path.{_≡_};
+ghost use mathlib.Core.List.{List, [], _∷_};
+ghost use Prim.Native.Nat.{ℕ};
+ghost use lib.ListN.{length, take};
+ghost use Rattle.patch.specs.Parts.{lay};
+ghost use Rattle.refusal.specs.Refusal.{_when_, first, isIn, someOutside};
+ghost use Rattle.field.specs.Symbols.{times};
+ghost use Rattle.codes.specs.Factors.{withFactors};
+ghost use Rattle.ending.specs.Endings.{Ends};
+ghost use Rattle.finish.specs.Working.{released};
+ghost use Rattle.joint.specs.Promises.{buffers, cleared, left};
+ghost use Rattle.powers.specs.Powers.{powerCode, powerLength, powerLengths, powerRows};
+ghost use Rattle.powers.specs.Checks.{countedLengths, decodeChecks, shapeChecks};
+ghost use Rattle.powers.specs.Promises.{Decodes, EndsAs, checksOf, given};
+ghost use Rattle.powers.specs.Working.{Countable, Counted, Giving, Raising, Ready, Short};
+use ending::Ending;
+use field::tables;
+
+// The message length of the power i.
+fn length(k: u32, i: usize) -> usize
+    requires { ⌜ Countable k i ⌝ }
+    ensures { λ r. ⌜ r ≡ powerLength k i ⌝ }
+{
+    i * (k as usize - 1) + 1
+}
+
+// The message lengths of the powers, of which as many count as there are powers.
+fn lengths(k: u32, powers: u32) -> [u8; 4]
+    requires { ⌜ Short k powers ⌝ }
+    ensures { λ r. ⌜ take powers r ≡ powerLengths k powers ⌝ }
+{
+    let mut ks = [0u8; 4];
+    let mut i = 0;
+    while i < powers as usize {
+        ks[i] = length(k, i + 1) as u8;
+        i += 1;
+    }
+    ks
+}
+
+// The first of the checks 4 and 18 that applies, 0 where none does: of k and powers that are within their limits, the largest
+// length decides.
+fn length_refusal(n: usize, k: u32, powers: u32) -> u8
+    requires { ⌜ Counted n k powers ⌝ }
+    ensures { λ r. ⌜ r
+        ≡ first ((4 when someOutside 1 n (countedLengths k powers)) ∷ (18 when isIn n (countedLengths k powers)) ∷ []) ⌝ }
+{
+    let longest = length(k, powers as usize);
+    if n == longest {
+        return 18;
+    }
+    if n < longest { 4 } else { 0 }
+}
+
+// The first of the checks 1, 3, 20, 4 and 18 that applies, 0 where none does.
+fn code_refusal(degree: u32, n: usize, k: u32, powers: u32) -> u8
+    ensures { λ r. ⌜ r ≡ first (shapeChecks degree n k powers) ⌝ }
+{
+    if refusal::bad_degree(degree) {
+        return 1;
+    }
+    if refusal::outside(1, 96, n) {
+        return 3;
+    }
+    let no_powers = refusal::outside(1, 4, powers as usize);
+    let no_length = refusal::outside(1, n, k as usize);
+    if no_powers {
+        return 20;
+    }
+    if no_length {
+        return 4;
+    }
+    length_refusal(n, k, powers)
+}
+
+// The first check that applies, 0 where none does. Of the buffers for the answer, the flags and the working space the checks read
+// the lengths alone.
+fn decode_refusal(
+    degree: u32,
+    k: u32,
+    powers: u32,
+    points: &[u8],
+    factors: &[u8],
+    limit: u32,
+    received: &[u8],
+    answer: usize,
+    flags: usize,
+    space: usize,
+) -> u8
+    ensures { λ r. ⌜ ((a f w : List ℕ) → length a ≡ answer → length f ≡ flags → length w ≡ space
+        → r ≡ first (decodeChecks degree k powers (now (points .entry)) (now (factors .entry)) limit (now (received .entry)) a f w)) ⌝ }
+{
+    let of_code = code_refusal(degree, points.len(), k, powers);
+    if of_code != 0 {
+        return of_code;
+    }
+    let of_row = array_checks::received_refusal(
+        points.len(),
+        degree,
+        points,
+        factors,
+        received,
+        answer,
+        flags,
+        space,
+    );
+    if of_row != 0 {
+        return of_row;
+    }
+    let ks = lengths(k, powers);
+    array_checks::remaining_refusal(&ks[..powers as usize], points, limit, &received[..0])
+}
+
+// Writes the powers of a row, from the first on, one after the other at the front of rows.
+fn raise(degree: u32, powers: usize, row: &[u8], rows: &mut [u8])
+    requires { ⌜ Raising degree powers (now row) (now rows) ⌝ }
+    ensures { λ _. ⌜ now (rows .exit) ≡ lay 0 (powerRows degree powers (now (row .entry))) (now (rows .entry)) ⌝ }
+{
+    let table = tables::lend(degree);
+    let mut power = [0u8; 96];
+    rows::store(row, &mut power, 0);
+    let mut at = 0;
+    let mut i = 0;
+    while i < powers {
+        rows::store(&power[..row.len()], rows, at);
+        lists::multiply(&table, degree, row, 0, &mut power, 0, 0);
+        at += row.len();
+        i += 1;
+    }
+}
+
+// Decodes the powers of a row jointly, with factors of one; the answer of all rows is own.
+fn decode_rows(
+    degree: u32,
+    k: u32,
+    powers: u32,
+    points: &[u8],
+    limit: u32,
+    row: &[u8],
+    own: &mut [u8],
+    flags: &mut [u8],
+    space: &mut [u8],
+) -> Ending
+    requires { ⌜ Ready degree k powers (now points) limit (now row) (now own) (now flags) (now space) ⌝ }
+    ensures { λ r. ⌜ Ends (powerCode degree (now (points .entry)) k powers) (powerRows degree powers (now (row .entry))) limit
+        (buffers (now (own .entry)) (now (flags .entry))) r (buffers (now (own .exit)) (now (flags .exit)))
+        × (now (space .exit) ≡ cleared (now (space .entry))) ⌝ }
+{
+    let ks = lengths(k, powers);
+    let ones = [1u8; 96];
+    let mut rows = [0u8; 384];
+    raise(degree, powers as usize, row, &mut rows);
+    joint::decode(
+        degree,
+        &ks[..powers as usize],
+        points,
+        &ones[..points.len()],
+        limit,
+        &rows[..own.len()],
+        own,
+        flags,
+        space,
+    )
+}
+
+// Gives the row back, times the factors, on `corrected` alone.
+fn give(ending: Ending, degree: u32, factors: &[u8], row: &[u8], answer: &mut [u8])
+    requires { ⌜ Giving ending degree (now factors) (now row) (now answer) ⌝ }
+    ensures { λ _. ⌜ ((f : List ℕ) → buffers (now (answer .exit)) f
+        ≡ released ending (buffers (withFactors (times degree) (now (factors .entry)) 1 (now (row .entry))) f)
+        (buffers (now (answer .entry)) f)) ⌝ }
+{
+    match ending {
+        Ending::Refused(_) => {}
+        Ending::Corrected(_) => {
+            bytes::copy(row, answer);
+            factors::multiply(degree, factors, 1, answer);
+        }
+        Ending::Nothing => {}
+        Ending::Several(_) => {}
+        Ending::Hollow(_) => {}
+    }
+}
+
+// Decodes a row that passed the checks: the powers of its quotient, with the first row of their answer multiplied back.
+fn work(
+    degree: u32,
+    k: u32,
+    powers: u32,
+    points: &[u8],
+    factors: &[u8],
+    limit: u32,
+    received: &[u8],
+    answer: &mut [u8],
+    flags: &mut [u8],
+    space: &mut [u8],
+) -> Ending
+    requires { ⌜ 0 ≡ first (decodeChecks degree k powers (now points) (now factors) limit (now received) (now answer) (now flags)
+        (now space)) ⌝ }
+    ensures { λ r. ⌜ EndsAs
+        (given degree k powers (now (points .entry)) (now (factors .entry)) limit (now (received .entry))
+        (buffers (now (answer .entry)) (now (flags .entry))) (now (space .entry)))
+        r (buffers (now (answer .exit)) (now (flags .exit)))
+        × (now (space .exit) ≡ cleared (now (space .entry))) ⌝ }
+{
+    let n = points.len();
+    let cells = powers as usize * n;
+    let mut row = [0u8; 96];
+    let mut own = [0u8; 384];
+    factors::divide(degree, factors, 1, received, &mut row);
+    let ending = decode_rows(
+        degree,
+        k,
+        powers,
+        points,
+        limit,
+        &row[..n],
+        &mut own[..cells],
+        flags,
+        space,
+    );
+    give(ending, degree, factors, &own[0..n], answer);
+    ending
+}
+
+// Decodes a received row as so many powers of it: refusals 1, 3, 20, 4, 18, 5, 6, 23, 7 and 8, which touch nothing; else the ending of
+// joint decoding, on `corrected` with the row and the flags of its wrong symbols written, and in every case with the first 49,152 bytes
+// of the working space zero.
+pub fn decode(
+    degree: u32,
+    k: u32,
+    powers: u32,
+    points: &[u8],
+    factors: &[u8],
+    limit: u32,
+    received: &[u8],
+    answer: &mut [u8],
+    flags: &mut [u8],
+    space: &mut [u8],
+) -> Ending
+    ensures { λ r. ⌜ Decodes
+        (given degree k powers (now (points .entry)) (now (factors .entry)) limit (now (received .entry))
+        (buffers (now (answer .entry)) (now (flags .entry))) (now (space .entry)))
+        (left r (buffers (now (answer .exit)) (now (flags .exit))) (now (space .exit))) ⌝ }
+{
+    let refused = decode_refusal(
+        degree,
+        k,
+        powers,
+        points,
+        factors,
+        limit,
+        received,
+        answer.len(),
+        flags.len(),
+        space.len(),
+    );
+    if refused != 0 {
+        return Ending::Refused(refused);
+    }
+    work(
+        degree,
+        k,
+        powers,
+        points,
+        factors,
+        limit,
+        received,
+        answer,
+        flags,
+        space,
+    )
+}
