@@ -1,5 +1,5 @@
 -- Adding a code array: 02, 2026-13, 'for every array, every code array added to it'.
---
+
 --   Added IsCode d y a z    a, which IsCode says is a code array or a word, is added to y over the field of degree d, and z is the sum
 use mathlib.Core.Path.{_≡_}
 use mathlib.Core.List.{List}

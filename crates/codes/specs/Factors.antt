@@ -1,11 +1,9 @@
 -- Column factors: 02, 2026-11, 'The mill in the north multiplies each column by a fixed nonzero factor before striking.'
---
+
 --   Description         a code, and a factor for each of its columns; descriptionOf d xs fs ks, that of these
---   withFactors f fs r a    f of the factor and the symbol, in each column of r rows
---   multiplied D a      each symbol times its column's factor
---   divided D y         each symbol divided by its column's factor
---   encodedBy D m       the array that is struck for a message
---   CodeArrayBy D a     a is one
+--   withFactors f fs r a    f of the factor and the symbol, in each column of r rows; withFactorsRow, of one row
+--   multiplied D a      each symbol times its column's factor; divided D y, each divided by it
+--   encodedBy D m       the array that is struck for a message; CodeArrayBy D a, a is one
 --   ones n              n factors of one; plain c, the description of the code c with these
 use mathlib.Core.Path.{_≡_}
 use mathlib.Core.List.{List, [], _∷_, _++_}
@@ -22,7 +20,6 @@ pub record Description : Type 0 where
 abbrev pub descriptionOf : (d : ℕ) (points factors lengths : List ℕ) → Description
 descriptionOf d xs fs ks = record { code = codeOf d xs ks; factors = fs }
 
--- of one row
 unfoldable pub withFactorsRow : (ℕ → ℕ → ℕ) → List ℕ → List ℕ → List ℕ
 withFactorsRow f [] a = []
 withFactorsRow f (c ∷ cs) [] = []

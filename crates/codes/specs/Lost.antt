@@ -1,17 +1,15 @@
 -- Lost columns: 02, 2026-03, 'Lost sectors'. L is the list of lost columns.
---
+
 --   lostFlags n L       of n flags, 1 at the lost columns and 0 elsewhere
---   right fs l          the entries of l whose flag is 0, in their order
---   rightRows fs n r y  those of each of r rows of n symbols
---   core c L            the code of the remaining columns
---   coreOf c L y        the array made of the remaining columns
---   wrongAmong c L y a  the number of remaining columns in which y and a differ
---   flagsLost c L y a   the flags of y and a, with 2 at the lost columns
+--   right fs l          the entries of l whose flag is 0, in their order; rightRows fs n r y, those of each of r rows of n symbols
+--   core c L            the code of the remaining columns; coreOf c L y, the array made of them
+--   wrongAmong n L fs   of n columns or sectors, how many of the remaining ones the flags fs name
+--   flagsLost n L fs    the flags fs, with 2 at the lost ones
 use mathlib.Core.List.{List, [], _∷_, _++_}
 use Prim.Native.Nat.{ℕ, zero, suc}
 use lib.ListN.{take, drop}
 use Rattle.refusal.specs.Refusal.{isIn}
-use Rattle.codes.specs.Code.{Code, codeOf, columns, rows, total, flagsFrom, flagsOf}
+use Rattle.codes.specs.Code.{Code, codeOf, columns, rows, total, flagsFrom}
 
 -- 'a list of lost columns'
 abbrev pub lostFlags : ℕ → List ℕ → List ℕ
@@ -35,8 +33,8 @@ abbrev pub coreOf : Code → List ℕ → List ℕ → List ℕ
 coreOf c L y = rightRows (lostFlags (columns c) L) (columns c) (rows c) y
 
 -- 'wrong columns among the rest'
-abbrev pub wrongAmong : Code → List ℕ → List ℕ → List ℕ → ℕ
-wrongAmong c L y a = total (right (lostFlags (columns c) L) (flagsOf c y a))
+abbrev pub wrongAmong : (n : ℕ) (lost flags : List ℕ) → ℕ
+wrongAmong n L fs = total (right (lostFlags n L) fs)
 
 -- 'the lost columns are filled from the rows found, their flags are 2'
 unfoldable pub twosAt : List ℕ → List ℕ → List ℕ
@@ -45,5 +43,5 @@ twosAt (l ∷ ls) [] = []
 twosAt (zero ∷ ls) (f ∷ fs) = f ∷ twosAt ls fs
 twosAt (suc l ∷ ls) (f ∷ fs) = 2 ∷ twosAt ls fs
 
-abbrev pub flagsLost : Code → List ℕ → List ℕ → List ℕ → List ℕ
-flagsLost c L y a = twosAt (lostFlags (columns c) L) (flagsOf c y a)
+abbrev pub flagsLost : (n : ℕ) (lost flags : List ℕ) → List ℕ
+flagsLost n L fs = twosAt (lostFlags n L) fs

@@ -1,10 +1,9 @@
 -- What is near a received array: the user's demand on a decoding, 'a code array within the limit while every other code array
 -- differs in more columns than this one'. Said of any code, with `count`, in how many columns an array is wrong: all columns of a
 -- mark or the remaining ones, or the sectors of a ring.
---
+
 --   Nearest IsCode count τ w a    a is of the code and wrong in exactly w ≤ τ columns, every other one in more than w
---   Near IsCode count τ           some array of the code is wrong in at most τ columns
---   Far IsCode count τ            none is
+--   Near IsCode count τ           some array of the code is wrong in at most τ columns; Far IsCode count τ, none is
 use mathlib.Core.Path.{_≡_}
 use mathlib.Core.List.{List}
 use Prim.Native.Nat.{ℕ, _≤_, _<_}

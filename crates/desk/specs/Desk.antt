@@ -1,17 +1,13 @@
 -- The desk and its calls: 01, 'The desk'; 02, 2026-11, 'Column factors'. A promise fixes the outcome and the next desk.
---
+
 --   deskCode d, arrayOf d   the code of a desk, and its array of r·n symbols; deskDescription d, the code with its factors
---   zeros n                 n zeros
---   zeroDesk D              the desk of the description D with an array of zeros
---   spareCode               the code of the desk that a refused opening hands over; spare, its description
+--   zeroDesk D              the desk of the description D with an array of zeros; zeros n, n zeros
+--   spare                   the description of the desk that a refused opening hands over
 --   openChecks, putChecks   the checks, in order
---   Hands cs done refused h    h, the outcome's meaning and a desk: `done` where no check of cs applies, `refused` with its number
---                           where one does
+--   Hands cs done refused h    h, the outcome's meaning and a desk: `done` where no check of cs applies, else `refused` with its number
 --   Opens D r               opening with the description D hands over r
---   withColumn n i s a      a, of rows of n symbols, with the symbols s, one a row, in column i
---   withArray d a           the desk with the array a
---   placed d i s            the desk with the symbols s in column i
---   Puts d i s r            putting the symbols s into column i of d hands back r
+--   withColumn n i s a      a, of rows of n symbols, with the symbols s, one a row, in column i; withArray d a, the desk with the array a
+--   placed d i s            the desk with the symbols s in column i; Puts d i s r, putting them there hands back r
 --   Made d                  d came from opening and putting
 use mathlib.Core.Path.{_≡_}
 use mathlib.Core.List.{List, [], _∷_, _++_}
@@ -19,12 +15,12 @@ use Prim.Native.Nat.{ℕ, _+_, _*_}
 use lib.Dec.{leb}
 use lib.ListN.{set, take, replicate}
 use Rattle.patch.specs.Parts.{lay}
-use Rattle.refusal.specs.Refusal.{Check, _when_, badPoints, someOutsideField}
+use Rattle.refusal.specs.Refusal.{Check, _when_, someOutsideField}
 use Rattle.refusal.specs.Keeping.{Keeps}
 use Rattle.refusal.specs.Meaning.{Meaning, refusal}
 use Rattle.codes.specs.Code.{Code, codeOf, columns, rows}
 use Rattle.codes.specs.Factors.{Description, plain}
-use Rattle.codes.specs.Checks.{shapeChecks, badFactors, wrongLength}
+use Rattle.codes.specs.Checks.{shapeChecks, columnChecks, wrongLength}
 use Rattle.mark.specs.Promises.{meaning}
 use Rattle.mark.specs.declared.Outcome.the-variants.{Done}
 use Rattle.desk.specs.declared.Desk.{Desk}
@@ -57,23 +53,14 @@ zeroDesk D = record {
   array = zeros 64;
 }
 
--- 'the zero desk of GF(4) with points 0 1 and k 1'
-abbrev pub spareCode : Code
-spareCode = codeOf 2 (0 ∷ 1 ∷ []) (1 ∷ [])
-
--- 02, 2026-11: 'the zero desk of a refused opening has ones'
+-- 'the zero desk of GF(4) with points 0 1 and k 1'; 02, 2026-11: 'the zero desk of a refused opening has ones'
 abbrev pub spare : Description
-spare = plain spareCode
+spare = plain (codeOf 2 (0 ∷ 1 ∷ []) (1 ∷ []))
 
 -- 'under checks 1, 2, 3, 4, 6' (18 after 4: 02, 2026-05); '3: count of points is not … (desk: 1 to 16)'; 02, 2026-11: 'a missing or
 -- spare factor is 5, at opening a desk too, after 4 and 18; 23, a factor outside the field or zero, after 6'
 abbrev pub openChecks : Description → List Check
-openChecks D =
-    shapeChecks 16 (D .code)
-    ++ (5 when wrongLength (columns (D .code)) (D .factors))
-    ∷ (6 when badPoints (D .code .degree) (D .code .points))
-    ∷ (23 when badFactors (D .code .degree) (D .factors))
-    ∷ []
+openChecks D = shapeChecks 16 (D .code) ++ (5 when wrongLength (columns (D .code)) (D .factors)) ∷ columnChecks D
 
 abbrev pub Hands : (cs : List Check) (done refused : Desk) → Meaning × Desk → Type 0
 Hands cs done refused = Keeps cs (λ k. (refusal k, refused)) (λ h. h ≡ (meaning Done, done))
@@ -88,15 +75,8 @@ withColumn n i [] a = a
 withColumn n i (s ∷ ss) a = withColumn n (i + n) ss (set a i s)
 
 abbrev pub withArray : Desk → List ℕ → Desk
-withArray d a = record {
-  degree = d .degree;
-  columns = d .columns;
-  rows = d .rows;
-  points = d .points;
-  factors = d .factors;
-  lengths = d .lengths;
-  array = a;
-}
+withArray d a =
+    record { degree = d.degree; columns = d.columns; rows = d.rows; points = d.points; factors = d.factors; lengths = d.lengths; array = a }
 
 -- 'it replaces that column and nothing else'
 abbrev pub placed : Desk → ℕ → List ℕ → Desk
@@ -104,11 +84,7 @@ placed d i s = withArray d (withColumn (d .columns) i s (d .array))
 
 -- 'Putting a column takes its number and r symbols (checks 14, 5, 7)'; '14: column number is not below n'; '5: … a desk column r'
 abbrev pub putChecks : Desk → ℕ → List ℕ → List Check
-putChecks d i s =
-    (14 when leb (d .columns) i)
-    ∷ (5 when wrongLength (d .rows) s)
-    ∷ (7 when someOutsideField (d .degree) s)
-    ∷ []
+putChecks d i s = (14 when leb (d .columns) i) ∷ (5 when wrongLength (d .rows) s) ∷ (7 when someOutsideField (d .degree) s) ∷ []
 
 -- 'A refused call leaves the desk as it was'
 abbrev pub Puts : Desk → ℕ → List ℕ → Put → Type 0

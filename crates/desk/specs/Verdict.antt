@@ -1,10 +1,9 @@
 -- The verdict: 01, 'The desk', 'The verdict is the number of rows that are not values of a polynomial with at most k_l
 -- coefficients.' 02, 2026-11: 'in the desk's interpolation y is the symbol divided by its column's factor'.
---
+
 --   IsRow d xs k ys       the row ys is the values at the points xs of a polynomial with at most k coefficients
 --   Misfits d xs ks a v   v of the rows of a, one for each length of ks, are not
---   Verdict d v           v is the verdict on the desk d
---   Judges d r            r is what the verdict on d hands back
+--   Verdict d v           v is the verdict on the desk d; Judges d r, r is what the verdict on d hands back
 use mathlib.Core.Path.{_≡_}
 use mathlib.Core.List.{List, [], _∷_}
 use Prim.Native.Nat.{ℕ, suc}

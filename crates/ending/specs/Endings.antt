@@ -1,11 +1,11 @@
 -- The endings of a decoding: 01, 'Locators and endings', the table.
---
---   meaning              this paper's number and values of each ending
+
+--   meaning              this paper's number and values of each ending; isCorrected, the number is that of 'corrected'
 --   Buffers              the lent array and flags
---   Row c y τ lent left m      the row of the table for what an ending means
---   Ends c y τ lent e left     the decoding of y, not refused, ends as e and turns the buffers lent into left
+--   Row c y τ lent left code d    the row of the table for what an ending means
+--   Ends c y τ lent e left        the decoding of y, not refused, ends as e and turns the buffers lent into left
 use mathlib.Core.Path.{_≡_}
-use mathlib.Core.Bool.{cond}
+use mathlib.Core.Bool.{Bool, cond}
 use mathlib.Core.List.{List, [], _∷_}
 use Prim.Native.Nat.{ℕ, _≤_}
 use lib.Dec.{eqb}
@@ -22,6 +22,9 @@ meaning (Corrected w) = (1, w ∷ [])
 meaning Nothing = (2, [])
 meaning (Several t) = (3, t ∷ [])
 meaning (Hollow t) = (4, t ∷ [])
+
+abbrev pub isCorrected : Ending → Bool
+isCorrected e = eqb (numberOf (meaning e)) 1
 
 pub record Buffers : Type 0 where
   pub array : List ℕ

@@ -1,7 +1,6 @@
 -- Locators: 01, 'Locators and endings'.
---
---   Locator c y t E     E is a locator of size t for the received array y
---   Multiple c E F      F is a multiple of E by a field constant
+
+--   Locator c y t E     E is a locator of size t for the received array y; Multiple c E F, F is a multiple of E by a field constant
 --   Least c y τ t       t is the smallest size not above τ at which a locator exists
 --   OnlyOne c y t E     all locators of size t are multiples of E, which is one
 --   Divides c y t E m   E divides every N_l, and the quotients are the rows of the message m

@@ -1,5 +1,5 @@
 -- Arithmetic as one value, so that polynomials, codes and decoders are defined once over it.
---
+
 --   Arithmetic K    sum, product and quotient on a carrier K, and which elements of K are symbols
 --   gf d            the arithmetic of the field of degree d
 use Prim.Native.Nat.{ℕ}

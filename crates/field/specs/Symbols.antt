@@ -1,11 +1,8 @@
 -- Symbols of GF(4), GF(16) and GF(256): 01, 'Fields and arrays'. The degree d is 2, 4 or 8.
---
+
 --   IsSymbol d a     a is a symbol of the field of degree d
---   plus a b         the sum
 --   modulus d        the reducing polynomial, bit i for x^i: the one place where the three stand
---   timesX d c       x times c
---   times d a b      the product
---   raised d a n     a to the power n
+--   plus a b         the sum; times d a b, the product; timesX d c, x times c; raised d a n, a to the power n
 --   Quotient d a b c    c is the quotient of a by b; over d a b, where b is not zero
 use Prim.Native.Nat.{ℕ, zero, suc, _-_, _*_, _/_, _%_, _^_, _<_}
 use mathlib.Core.Path.{_≡_}

@@ -1,6 +1,5 @@
--- What the arithmetic calls answer: 01, 'Fields and arrays', 'Arithmetic calls make checks 1 and 7 and answer the symbol or that
--- number.'
---
+-- What the arithmetic calls answer: 01, 'Fields and arrays', 'Arithmetic calls make checks 1 and 7 and answer the symbol or that number.'
+
 --   checks d a b     the two checks, in order; quotientChecks, those of the quotient
 --   meaning v        01's number and values of an answer
 --   Gives cs s v     v is the promised answer: the first refusal of cs, or else the symbol s

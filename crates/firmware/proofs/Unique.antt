@@ -84,11 +84,12 @@ ring-read q m w lent =
     returns-unique meaning (λ (o : Outcome) (b : List ℕ). rings.Reads q m w lent (left o b))
     (λ o o′ b b′ h h′. parts (ring-unique.reads-unique q m w lent (left o b) (left o′ b′) h h′))
 
-pub ring-decode : (g : rings.Given) {r r′ : ℕ} {b b′ : Kept} → Returns endingMeaning (λ (e : Ending). rings.Decodes g (ended e b)) r
-    → Returns endingMeaning (λ (e : Ending). rings.Decodes g (ended e b′)) r′ → (r ≡ r′) × (b ≡ b′)
-ring-decode g =
-    returns-unique endingMeaning (λ (e : Ending) (b : Kept). rings.Decodes g (ended e b))
-    (λ e e′ b b′ h h′. ended-parts (ring-unique.decodes-unique g (ended e b) (ended e′ b′) h h′))
+pub ring-decode : (q m τ : ℕ) (y : List ℕ) (lent : Buffers) (space : List ℕ) {r r′ : ℕ} {b b′ : Kept}
+    → Returns endingMeaning (λ (e : Ending). rings.Decodes q m τ y lent space (ended e b)) r
+    → Returns endingMeaning (λ (e : Ending). rings.Decodes q m τ y lent space (ended e b′)) r′ → (r ≡ r′) × (b ≡ b′)
+ring-decode q m τ y lent space =
+    returns-unique endingMeaning (λ (e : Ending) (b : Kept). rings.Decodes q m τ y lent space (ended e b))
+    (λ e e′ b b′ h h′. ended-parts (ring-unique.decodes-unique q m τ y lent space (ended e b) (ended e′ b′) h h′))
 
 pub mark-decode-lost : (L : List ℕ) (g : joint.Given) {r r′ : ℕ} {b b′ : Kept}
     → Returns endingMeaning (λ (e : Ending). joint-lost.DecodesLost L g (ended e b)) r
@@ -97,18 +98,19 @@ mark-decode-lost L g =
     returns-unique endingMeaning (λ (e : Ending) (b : Kept). joint-lost.DecodesLost L g (ended e b))
     (λ e e′ b b′ h h′. ended-parts (joint-losing.unique L g (ended e b) (ended e′ b′) h h′))
 
-pub ring-decode-lost : (L : List ℕ) (g : rings.Given) {r r′ : ℕ} {b b′ : Kept}
-    → Returns endingMeaning (λ (e : Ending). ring-lost.DecodesLost L g (ended e b)) r
-    → Returns endingMeaning (λ (e : Ending). ring-lost.DecodesLost L g (ended e b′)) r′ → (r ≡ r′) × (b ≡ b′)
-ring-decode-lost L g =
-    returns-unique endingMeaning (λ (e : Ending) (b : Kept). ring-lost.DecodesLost L g (ended e b))
-    (λ e e′ b b′ h h′. ended-parts (ring-losing.unique L g (ended e b) (ended e′ b′) h h′))
+pub ring-decode-lost : (L : List ℕ) (q m τ : ℕ) (y : List ℕ) (lent : Buffers) (space : List ℕ) {r r′ : ℕ} {b b′ : Kept}
+    → Returns endingMeaning (λ (e : Ending). ring-lost.DecodesLost L q m τ y lent space (ended e b)) r
+    → Returns endingMeaning (λ (e : Ending). ring-lost.DecodesLost L q m τ y lent space (ended e b′)) r′ → (r ≡ r′) × (b ≡ b′)
+ring-decode-lost L q m τ y lent space =
+    returns-unique endingMeaning (λ (e : Ending) (b : Kept). ring-lost.DecodesLost L q m τ y lent space (ended e b))
+    (λ e e′ b b′ h h′. ended-parts (ring-losing.unique L q m τ y lent space (ended e b) (ended e′ b′) h h′))
 
-pub mark-decode-powers : (g : powered.Given) {r r′ : ℕ} {b b′ : Kept} → Returns endingMeaning (λ (e : Ending). powered.Decodes g (ended e b)) r
-    → Returns endingMeaning (λ (e : Ending). powered.Decodes g (ended e b′)) r′ → (r ≡ r′) × (b ≡ b′)
-mark-decode-powers g =
-    returns-unique endingMeaning (λ (e : Ending) (b : Kept). powered.Decodes g (ended e b))
-    (λ e e′ b b′ h h′. ended-parts (powers-unique.unique g (ended e b) (ended e′ b′) h h′))
+pub mark-decode-powers : (d k s : ℕ) (xs fs : List ℕ) (τ : ℕ) (y : List ℕ) (lent : Buffers) (space : List ℕ) {r r′ : ℕ} {b b′ : Kept}
+    → Returns endingMeaning (λ (e : Ending). powered.Decodes d k s xs fs τ y lent space (ended e b)) r
+    → Returns endingMeaning (λ (e : Ending). powered.Decodes d k s xs fs τ y lent space (ended e b′)) r′ → (r ≡ r′) × (b ≡ b′)
+mark-decode-powers d k s xs fs τ y lent space =
+    returns-unique endingMeaning (λ (e : Ending) (b : Kept). powered.Decodes d k s xs fs τ y lent space (ended e b))
+    (λ e e′ b b′ h h′. ended-parts (powers-unique.unique d k s xs fs τ y lent space (ended e b) (ended e′ b′) h h′))
 
 -- what a tray's decoding leaves in the slices lent to it
 abbrev pub KeptTray : Type 0

@@ -148,8 +148,8 @@ pub extern "C" fn gren_mark_decode_powers(
     space: &mut [u8],
 ) -> u32
     ensures { λ r. ⌜ Returns endingMeaning (λ e. powered.Decodes
-        (powered.given degree k powers (now (points .entry)) (now (factors .entry)) limit (now (received .entry))
-        (buffers (now (answer .entry)) (now (flags .entry))) (now (space .entry)))
+        degree k powers (now (points .entry)) (now (factors .entry)) limit (now (received .entry))
+        (buffers (now (answer .entry)) (now (flags .entry))) (now (space .entry))
         (ended e (buffers (now (answer .exit)) (now (flags .exit))) (now (space .exit)))) r ⌝ }
 {
     pack(powers::decode(
@@ -227,7 +227,7 @@ pub extern "C" fn gren_ring_decode(
     space: &mut [u8],
 ) -> u32
     ensures { λ r. ⌜ Returns endingMeaning (λ e. rings.Decodes
-        (rings.given q m limit (now (received .entry)) (buffers (now (answer .entry)) (now (flags .entry))) (now (space .entry)))
+        q m limit (now (received .entry)) (buffers (now (answer .entry)) (now (flags .entry))) (now (space .entry))
         (ended e (buffers (now (answer .exit)) (now (flags .exit))) (now (space .exit)))) r ⌝ }
 {
     pack(ring::decode(q, m, limit, received, answer, flags, space))
@@ -246,7 +246,7 @@ pub extern "C" fn gren_ring_decode_lost(
     space: &mut [u8],
 ) -> u32
     ensures { λ r. ⌜ Returns endingMeaning (λ e. ring-lost.DecodesLost (now (lost .entry))
-        (rings.given q m limit (now (received .entry)) (buffers (now (answer .entry)) (now (flags .entry))) (now (space .entry)))
+        q m limit (now (received .entry)) (buffers (now (answer .entry)) (now (flags .entry))) (now (space .entry))
         (ended e (buffers (now (answer .exit)) (now (flags .exit))) (now (space .exit)))) r ⌝ }
 {
     pack(ring::decode_lost(q, m, limit, lost, received, answer, flags, space))

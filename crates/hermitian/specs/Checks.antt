@@ -1,11 +1,8 @@
 -- The checks of the calls on rings, in order: 01, 'Hermitian calls check 10, 11, 5, 7, then 8 or 9; there the lengths are K, q³
 -- symbols, q² flags, and working space as in 5.'
---
---   badSize q             the test of number 10
---   badOrder q m          the test of number 11
---   ringChecks q m        10, 11 and 18
---   encodeChecks, readChecks, decodeChecks
---   wordChecks            10, 11, 18, 5 and 7 of decoding
+
+--   badSize q             the test of number 10; badOrder q m, that of 11; ringChecks q m, 10, 11 and 18
+--   encodeChecks, readChecks, decodeChecks    those of the calls; wordChecks, 10, 11, 18, 5 and 7 of decoding
 --   lostChecks            those of a decoding with lost sectors: 16, 17 and 8 are those of the array
 use mathlib.Core.Bool.{Bool, not, _||_}
 use mathlib.Core.List.{List, [], _∷_, _++_}
@@ -42,11 +39,9 @@ abbrev pub readChecks : ℕ → ℕ → List ℕ → List ℕ → List Check
 readChecks q m w f = ringChecks q m ++ bufferChecks q m f w w
 
 abbrev pub wordChecks : ℕ → ℕ → List ℕ → List ℕ → List ℕ → List ℕ → List Check
-wordChecks q m y w f s =
-    ringChecks q m
+wordChecks q m y w f s = ringChecks q m
     ++ (5 when wrongLength (q * q * q) y || wrongLength (q * q * q) w || wrongLength (q * q) f || ltb (length s) spaceBytes)
-    ∷ (7 when someOutsideField q y)
-    ∷ []
+    ∷ (7 when someOutsideField q y) ∷ []
 
 abbrev pub decodeChecks : ℕ → ℕ → ℕ → List ℕ → List ℕ → List ℕ → List ℕ → List Check
 decodeChecks q m τ y w f s = wordChecks q m y w f s ++ (8 when ltb (jointLimit (ringCode q m)) τ) ∷ []

@@ -1,18 +1,13 @@
 -- Hermitian rings: 01, 'Hermitian rings'. q is 2 or 4; GF(q²) has 2 ^ q symbols and is the field of degree q.
---
+
 --   numbers n            0, 1, …, n − 1
 --   onCurve q x y        the pair is a point of the ring
---   sector q x           the y of the points of an x, in order
---   ringPoints q         the points, in order
---   ringLengths q m      the message lengths k_j of H(m)
---   ringCode q m         the code to which the arrays of H(m) belong
+--   ringPoints q         the points, in order; sector q x, the y of the points of an x, in order
+--   ringLengths q m      the message lengths k_j of H(m); ringCode q m, the code to which the arrays of H(m) belong
 --   valueAt d ks f x y   the value of f at (x, y), f being a message of rows of these lengths
---   ringWord q m f       the word of H(m) of a message
---   RingWord q m w       w is one
---   IsRing q w           q³ symbols
+--   ringWord q m f       the word of H(m) of a message; RingWord q m w, w is one; IsRing q w, q³ symbols
 --   column r n a x       column x of an array of r rows of n symbols
---   ringOf q a           the ring of an array of q rows and q² columns
---   ArrayOf q w a        a is the array of the ring w
+--   ringOf q a           the ring of an array of q rows and q² columns; ArrayOf q w a, a is the array of the ring w
 --   differsIn q v w x    v and w differ in sector x
 --   sectorFlags q v w    of q² flags, 1 where they differ and 0 elsewhere; wrongSectors, how many
 use mathlib.Core.Path.{_≡_}

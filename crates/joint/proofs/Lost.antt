@@ -134,9 +134,9 @@ module _ (c : Code) (L : List ℕ) where
       core-differs gone n (lost-length n L) (c .points) refl i q z (rows c) y a (received .count) (answer .count),
     )
 
-    pub twos-merged : flagsLost c L y a ≡ merged gone (flagsOf rest (coreOf c L y) (coreOf c L a))
+    pub twos-merged : flagsLost (columns c) L (flagsOf c y a) ≡ merged gone (flagsOf rest (coreOf c L y) (coreOf c L a))
     unfolding merged
-    twos-merged = ext-getD 0 (flagsLost c L y a) (put gone fs twos)
+    twos-merged = ext-getD 0 (flagsLost (columns c) L (flagsOf c y a)) (put gone fs twos)
         (twos-count gone (flagsOf c y a) (flags-length _ 0 n ∙ sym (lost-length n L))
         ∙ sym (put-count gone fs twos ∙ length-replicate (length gone) 2))
         (λ i q. at i (omega (
@@ -155,7 +155,7 @@ module _ (c : Code) (L : List ℕ) where
         enough : total (zerosIn gone) ≤ length fs
         enough = omega (arith, flags-length (differsAt rest (coreOf c L y) (coreOf c L a)) 0 (columns rest), rest-count)
 
-        at : (i : ℕ) → i < n → Dec (getD gone i 0 ≡ 0) → getD (flagsLost c L y a) i 0 ≡ getD (put gone fs twos) i 0
+        at : (i : ℕ) → i < n → Dec (getD gone i 0 ≡ 0) → getD (flagsLost (columns c) L (flagsOf c y a)) i 0 ≡ getD (put gone fs twos) i 0
         at i q (yes z) =
             let d = rest-differs i q z in
             twos-left gone (flagsOf c y a) i (flags-length _ 0 n ∙ sym (lost-length n L)) (omega (arith, lost-length n L)) z
@@ -177,7 +177,7 @@ module _ (c : Code) (L : List ℕ) where
         ∙ right-put gone (flagsOf rest (coreOf c L y) (coreOf c L a)) (replicate (length gone) 2) (length-replicate (length gone) 2)
         (flags-length _ 0 (columns rest) ∙ rest-count)
 
-    pub wrong-rest : wrongCount rest (coreOf c L y) (coreOf c L a) ≡ wrongAmong c L y a
+    pub wrong-rest : wrongCount rest (coreOf c L y) (coreOf c L a) ≡ wrongAmong (columns c) L (flagsOf c y a)
     wrong-rest = ap total (sym rest-flags)
 
   module _ (p : Proper c) {τ : ℕ} (r : Remains c τ L) where
@@ -207,7 +207,7 @@ module _ (c : Code) (L : List ℕ) where
         abbrev pub marks : List ℕ
         marks = merged gone (found .flags)
 
-        flags-are : marks ≡ flagsLost c L y a
+        flags-are : marks ≡ flagsLost (columns c) L (flagsOf c y a)
         flags-are = ap (merged gone) found-flags ∙ sym (twos-merged received answer)
 
         wrong-count : total (found .flags) ≡ w
@@ -275,7 +275,7 @@ module _ (c : Code) (L : List ℕ) where
           found = found;
           corrects = h;
           array = filled-is;
-          flags = flags-are ∙ ap (flagsLost c L y) (sym filled-is);
+          flags = flags-are ∙ ap (λ (a : List ℕ). flagsLost (columns c) L (flagsOf c y a)) (sym filled-is);
         }
 
       -- the decoding of the remaining columns ends alike
@@ -295,7 +295,8 @@ module _ (c : Code) (L : List ℕ) where
           let m : h .corrects .m ≡ h′ .corrects .m = one-message restProper (h .corrects .message) (h′ .corrects .message)
           (sym (h .corrects .array) ∙ ap (λ (b : Buffers). b .array) one ∙ h′ .corrects .array) in
           let array : x .array ≡ x′ .array = h .array ∙ ap (encoded c) m ∙ sym (h′ .array) in
-          λ i. record { array = array i; flags = (h .flags ∙ ap (flagsLost c L y) array ∙ sym (h′ .flags)) i }
+          let flags = h .flags ∙ ap (λ (a : List ℕ). flagsLost (columns c) L (flagsOf c y a)) array ∙ sym (h′ .flags) in
+          λ i. record { array = array i; flags = flags i }
       same-left lent Nothing x x′ h h′ = h .1 ∙ sym (h′ .1)
       same-left lent (Several t) x x′ h h′ = h .2 ∙ sym (h′ .2)
       same-left lent (Hollow t) x x′ h h′ = h .2 ∙ sym (h′ .2)
@@ -349,7 +350,7 @@ module _ (c : Code) {y : List ℕ} (received : IsArray c y) (τ : ℕ) (lent lef
     subst₂ (λ (d : Code) (z : List ℕ). Ends d z τ lent e b) (sym (core-none c)) (sym (core-of-none c received)),
   )
 
-  flags-none : (a : List ℕ) → flagsLost c [] y a ≡ flagsOf c y a
+  flags-none : (a : List ℕ) → flagsLost (columns c) [] (flagsOf c y a) ≡ flagsOf c y a
   unfolding isIn
   flags-none a =
       ap (λ (m : ℕ). twosAt (lostFlags m []) (flagsOf c y a)) (sym (flags-length (differsAt c y a) 0 (columns c)))

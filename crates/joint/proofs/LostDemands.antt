@@ -31,7 +31,7 @@ use Rattle.refusal.specs.Refusal.{first, isIn, someOutsideField}
 use Rattle.refusal.specs.Meaning.{detailOf}
 use Rattle.refusal.proofs.Ladders.{first-upto}
 use Rattle.field.specs.Symbols.{over}
-use Rattle.codes.specs.Code.{Code, IsArray, columns, rows, total, CodeArray, flag, flagsOf, wrongCount, differsAt, safeLimit, jointLimit}
+use Rattle.codes.specs.Code.{Code, IsArray, columns, rows, CodeArray, flag, flagsOf, wrongCount, differsAt, safeLimit, jointLimit}
 use Rattle.codes.specs.Factors.{Description, withFactors, multiplied, divided, CodeArrayBy}
 use Rattle.codes.specs.Lost.{lostFlags, right, rightRows, core, coreOf, twosAt, wrongAmong, flagsLost}
 use Rattle.codes.specs.Near.{Nearest, Near, Far}
@@ -69,11 +69,14 @@ module _ {c : Code} {L : List ℕ} (p : Proper c) {τ : ℕ} (r : Remains c τ L
   left-array : IsArray rest (coreOf c L y)
   left-array = core-array c L received
 
+  abbrev wrong : List ℕ → ℕ
+  wrong a = wrongAmong (columns c) L (flagsOf c y a)
+
   -- how far a code array is, over the remaining columns
-  among : {a : List ℕ} → CodeArray c a → wrongCount rest (coreOf c L y) (coreOf c L a) ≡ wrongAmong c L y a
+  among : {a : List ℕ} → CodeArray c a → wrongCount rest (coreOf c L y) (coreOf c L a) ≡ wrong a
   among i = wrong-rest c L received (code-array p i)
 
-  pub lost-nearest : {w : ℕ} {left : Buffers} → LostCorrects c L y τ w left → Nearest (CodeArray c) (wrongAmong c L y) τ w (left .array)
+  pub lost-nearest : {w : ℕ} {left : Buffers} → LostCorrects c L y τ w left → Nearest (CodeArray c) wrong τ w (left .array)
   lost-nearest {w} {left} d =
       let near = endings.corrected-means proper left-array τ (r .limit) w left (d .found) (d .corrects) in
       let code : CodeArray c (left .array) = (d .corrects .m, full-message c L p (d .corrects .message), sym (d .array)) in
@@ -87,12 +90,12 @@ module _ {c : Code} {L : List ℕ} (p : Proper c) {τ : ℕ} (r : Remains c τ L
             (λ s. apart (core-code c L p (r .enough) i code (s ∙ sym found))));
       }
 
-  pub lost-far : {lent left : Buffers} → LostEnds c L y τ lent Nothing left → Far (CodeArray c) (wrongAmong c L y) τ
+  pub lost-far : {lent left : Buffers} → LostEnds c L y τ lent Nothing left → Far (CodeArray c) wrong τ
   lost-far {lent} {left} d a i = subst (λ (n : ℕ). τ < n) (among i)
       (endings.none-means proper left-array τ lent left d (coreOf c L a) (code-core c L p i))
 
   -- near, over the remaining columns
-  near-rest : Near (CodeArray rest) (wrongCount rest (coreOf c L y)) τ ↔ Near (CodeArray c) (wrongAmong c L y) τ
+  near-rest : Near (CodeArray rest) (wrongCount rest (coreOf c L y)) τ ↔ Near (CodeArray c) wrong τ
   near-rest = (
     λ (a, i, n).
         let (b, j, e) = full-code c L p i in
@@ -101,7 +104,7 @@ module _ {c : Code} {L : List ℕ} (p : Proper c) {τ : ℕ} (r : Remains c τ L
   )
 
   pub lost-safe : τ ≤ safeLimit rest → (lent : Buffers) (e : Ending) (b : Buffers) → LostEnds c L y τ lent e b
-      → ((w : ℕ) × (e ≡ Corrected w)) ↔ Near (CodeArray c) (wrongAmong c L y) τ
+      → ((w : ℕ) × (e ≡ Corrected w)) ↔ Near (CodeArray c) wrong τ
   lost-safe safe lent e b d =
       let (x, ends) = found-ends c L p r received lent e b d in
       Iff·trans (endings.safe-exactly proper left-array τ safe e lent x ends) near-rest
@@ -129,6 +132,10 @@ module _ (L : List ℕ) (g : Given) where
 
   abbrev y : List ℕ
   y = g .received
+
+  -- in how many of the remaining columns v and an array differ
+  abbrev wrongFrom : List ℕ → List ℕ → ℕ
+  wrongFrom v a = wrongAmong (columns c) L (flagsOf c v a)
 
   abbrev Table : List ℕ → Ending → Buffers → Type 0
   Table z = LostEnds c L z (g .limit) (g .lent)
@@ -248,8 +255,8 @@ module _ (L : List ℕ) (g : Given) (l : Left) (h : DecodesLost L g l) where
     flags-same = flags-struck (D L g) (q .0 .array .proper) (q .1) (q .0 .array .received) i
 
   same-among : (q : Passed L g) (a : List ℕ) → IsArray (c L g) a
-      → wrongAmong (c L g) L (y L g) (multiplied (D L g) a) ≡ wrongAmong (c L g) L (divided (D L g) (y L g)) a
-  same-among q a i = ap (λ (fs : List ℕ). total (right (lostFlags (columns (c L g)) L) fs)) (flags-same q i)
+      → wrongFrom L g (y L g) (multiplied (D L g) a) ≡ wrongFrom L g (divided (D L g) (y L g)) a
+  same-among q a i = ap (wrongAmong (columns (c L g)) L) (flags-same q i)
 
   -- what is left on 'corrected'
   module _ (w : ℕ) (e : l .ending ≡ Corrected w) where
@@ -259,20 +266,20 @@ module _ (L : List ℕ) (g : Given) (l : Left) (h : DecodesLost L g l) where
     abbrev q : Passed L g
     q = passed L g (corrected w e .0)
 
-    near : Nearest (CodeArray (c L g)) (wrongAmong (c L g) L (divided (D L g) (y L g))) (g .limit) w (d .answer .array)
+    near : Nearest (CodeArray (c L g)) (wrongFrom L g (divided (D L g) (y L g))) (g .limit) w (d .answer .array)
     near = lost-nearest (q .0 .array .proper) (q .0 .remain) (quotient L g q) (d .ends)
 
     array-is : l .buffers .array ≡ multiplied (D L g) (d .answer .array)
     array-is = ap (λ (b : Buffers). b .array) (d .back)
 
-    pub corrected-nearest : Nearest (CodeArrayBy (D L g)) (wrongAmong (c L g) L (y L g)) (g .limit) w (l .buffers .array)
-    corrected-nearest = subst (Nearest (CodeArrayBy (D L g)) (wrongAmong (c L g) L (y L g)) (g .limit) w) (sym array-is)
+    pub corrected-nearest : Nearest (CodeArrayBy (D L g)) (wrongFrom L g (y L g)) (g .limit) w (l .buffers .array)
+    corrected-nearest = subst (Nearest (CodeArrayBy (D L g)) (wrongFrom L g (y L g)) (g .limit) w) (sym array-is)
         (near-struck (D L g) (q .0 .array .proper) (q .1) _ _ (same-among q) near)
 
-    flags-are : l .buffers .flags ≡ flagsLost (c L g) L (y L g) (l .buffers .array)
+    flags-are : l .buffers .flags ≡ flagsLost (columns (c L g)) L (flagsOf (c L g) (y L g) (l .buffers .array))
     flags-are = ap (λ (b : Buffers). b .flags) (d .back) ∙ d .ends .flags
         ∙ ap (twosAt (lostFlags (columns (c L g)) L)) (sym (flags-same q (code-array (q .0 .array .proper) (near .code))))
-        ∙ ap (flagsLost (c L g) L (y L g)) (sym array-is)
+        ∙ ap (λ (a : List ℕ). flagsLost (columns (c L g)) L (flagsOf (c L g) (y L g) a)) (sym array-is)
 
     -- 'their flags are 2'
     pub corrected-flags : (i : ℕ) → i < columns (c L g)
@@ -304,7 +311,7 @@ module _ (L : List ℕ) (g : Given) (l : Left) (h : DecodesLost L g l) where
         (quotients-same L (D L g) (q .1) ib ia s))
         ∙ multiplied-divided (D L g) p (q .1) ia
 
-  pub none-far : l .ending ≡ Nothing → Far (CodeArrayBy (D L g)) (wrongAmong (c L g) L (y L g)) (g .limit)
+  pub none-far : l .ending ≡ Nothing → Far (CodeArrayBy (D L g)) (wrongFrom L g (y L g)) (g .limit)
   none-far e =
       let (none, d) = ended-as Nothing e (λ k e. let z : _≡_ {A = ℕ} 0 1 = cc in omega arith) in
       let q = passed L g none in
@@ -315,17 +322,17 @@ module _ (L : List ℕ) (g : Given) (l : Left) (h : DecodesLost L g l) where
     ended : (0 ≡ first (checksLost L g)) × EndsAs L g (l .ending) (l .buffers)
     ended = ended-as (l .ending) refl (λ k e. not (k, e))
 
-    pub safe-exactly : IsCorrected l ↔ Near (CodeArrayBy (D L g)) (wrongAmong (c L g) L (y L g)) (g .limit)
+    pub safe-exactly : IsCorrected l ↔ Near (CodeArrayBy (D L g)) (wrongFrom L g (y L g)) (g .limit)
     safe-exactly =
         let q = passed L g (ended .0) in
         let d = ended .1 in
         Iff·trans (lost-safe (q .0 .array .proper) (q .0 .remain) (quotient L g q) safe (g .lent) (l .ending) (d .answer) (d .ends))
         (near-exactly (D L g) (q .0 .array .proper) (q .1) _ _ (same-among q))
 
-    pub safe-otherwise : ¬ IsCorrected l → Far (CodeArrayBy (D L g)) (wrongAmong (c L g) L (y L g)) (g .limit)
-    safe-otherwise n a i = go (decLe (wrongAmong (c L g) L (y L g) a) (g .limit))
+    pub safe-otherwise : ¬ IsCorrected l → Far (CodeArrayBy (D L g)) (wrongFrom L g (y L g)) (g .limit)
+    safe-otherwise n a i = go (decLe (wrongFrom L g (y L g) a) (g .limit))
       where
-        go : Dec (wrongAmong (c L g) L (y L g) a ≤ g .limit) → g .limit < wrongAmong (c L g) L (y L g) a
+        go : Dec (wrongFrom L g (y L g) a ≤ g .limit) → g .limit < wrongFrom L g (y L g) a
         go (yes q) = absurd (n (safe-exactly .1 (a, i, q)))
         go (no q) = omega arith
 

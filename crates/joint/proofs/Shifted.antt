@@ -1,9 +1,12 @@
 -- Adding a code array to the received one, and raising the trial limit: of the promise itself, and so of every call that keeps it.
 --
 --   moves               a decoding's promise carried to another one, refusals staying as they are
---   only-shifts         what a promise says of sums that the shifted outcome keeps, and no other one does
+--   only-shifts         what a promise says of sums that the shifted outcome keeps, and no other one does; of such a promise:
+--   alone               'Our trainers demonstrate on the zero mark': what is left of an error alone says what is left on any code array
+--   same-difference     what is left depends on the received array only through its difference from a code array
 --   lost-shift, lost-raise    a code array is added, or the limit raised: how the table with lost columns follows
 --   adding, adding-lost both decodings of a sum with a code array: ending, detail, flags and working space stay, the answer is shifted
+--   error-alone, error-alone-lost, only-difference, only-difference-lost    these two consequences of both decodings
 --   raising, raising-lost    up to the joint limit only 'none' can change; within-joint, a decoding that is not refused is up to it
 -- Assumes nothing.
 use mathlib.Core.Path.{_≡_, refl, sym, ap, _∙_, subst}
@@ -56,13 +59,6 @@ module _ (cs ds : List Check) (lent : Buffers) (space : List ℕ) (E F : Ending 
       (λ k e is. subst (Decoding ds lent space F) (sym (ap r is ∙ fixed (suc k)))
       (keeping.refuses ds refused (Done F) (e ∙ same) (λ z. omega arith)))
 
-same-flags : (f : List ℕ → List ℕ) (e : Ending) (b : Buffers) → onCorrected f e b .flags ≡ b .flags
-same-flags f (Refused k) b = refl
-same-flags f (Corrected w) b = refl
-same-flags f Nothing b = refl
-same-flags f (Several t) b = refl
-same-flags f (Hollow t) b = refl
-
 -- an answer is made by f: what g makes of it, f makes of what h makes
 pub made-first : (f g h : List ℕ → List ℕ) (e : Ending) (b : Buffers) → ((w : ℕ) → e ≡ Corrected w → g (f (b .array)) ≡ f (h (b .array)))
     → onCorrected g e (onCorrected f e b) ≡ onCorrected f e (onCorrected h e b)
@@ -74,21 +70,25 @@ made-first f g h (Hollow t) b same = refl
 
 module _ (IsCode : List ℕ → Type 0) (d : ℕ) (Q : List ℕ → Left → Type 0) (one : (y : List ℕ) (l l′ : Left) → Q y l → Q y l′ → l ≡ l′)
     (keeps : (y a z : List ℕ) → Added IsCode d y a z → (l : Left) → Q y l → Q z (shiftedBy d a l)) where
-  added : {y a z : List ℕ} → Added IsCode d y a z → (l l′ : Left) → Q y l → Q z l′ → l′ ≡ shiftedBy d a l
-  added {y} {a} {z} h l l′ q q′ = one z l′ _ q′ (keeps y a z h l q)
-
   pub only-shifts : Shifts IsCode d Q
-  only-shifts = record {
-    adding = added;
-    error-alone = λ {y} {a} h l l′ q q′.
-        let is = added h l l′ q q′ in
-        let sum : List ℕ → List ℕ = λ b. add (gf d) b a in (
-          ap (λ (r : Left). r .ending) is,
-          ap (λ (r : Left). r .buffers .flags) is ∙ same-flags sum (l .ending) (l .buffers),
-          λ w e. ap (λ (r : Left). r .buffers .array) is ∙ ap (λ (e : Ending). onCorrected sum e (l .buffers) .array) e,
-        );
-    only-difference = λ {y} {a} {y′} {a′} {z} h h′ l l′ q q′. one z _ _ (keeps y a z h l q) (keeps y′ a′ z h′ l′ q′);
-  }
+  only-shifts y a z h l l′ q q′ = one z l′ _ q′ (keeps y a z h l q)
+
+  -- two received arrays with the same difference z from a code array
+  pub same-difference : {y a y′ a′ z : List ℕ} → Added IsCode d y a z → Added IsCode d y′ a′ z → (l l′ : Left) → Q y l → Q y′ l′
+      → shiftedBy d a l ≡ shiftedBy d a′ l′
+  same-difference {y} {a} {y′} {a′} {z} h h′ l l′ q q′ = one z _ _ (keeps y a z h l q) (keeps y′ a′ z h′ l′ q′)
+
+pub alone : {IsCode : List ℕ → Type 0} {d : ℕ} {Q : List ℕ → Left → Type 0} → Shifts IsCode d Q
+    → {y a z : List ℕ} → Added IsCode d y a z → (l l′ : Left) → Q y l → Q z l′
+    → (l′ .ending ≡ l .ending) × (l′ .buffers .flags ≡ l .buffers .flags)
+    × ((w : ℕ) → l .ending ≡ Corrected w → l′ .buffers .array ≡ add (gf d) (l .buffers .array) a)
+alone {d = d} shifts {y} {a} {z} h l l′ q q′ =
+    let is = shifts y a z h l l′ q q′ in
+    let sum : List ℕ → List ℕ = λ b. add (gf d) b a in (
+      ap (λ (r : Left). r .ending) is,
+      ap (λ (r : Left). r .buffers .flags) is,
+      λ w e. ap (λ (r : Left). r .buffers .array) is ∙ ap (λ (e : Ending). onCorrected sum e (l .buffers) .array) e,
+    )
 
 -- ---- of the table with lost columns
 
@@ -194,6 +194,19 @@ module _ (L : List ℕ) (D : Description) (lent : Buffers) (space : List ℕ) wh
   pub adding-lost : (τ : ℕ) → Shifts (CodeArrayBy D) (c .degree) (λ y. DecodesLost L (given D τ y lent space))
   adding-lost τ = only-shifts (CodeArrayBy D) (c .degree) (Promise τ) (λ y. lost.unique L (given D τ y lent space)) (keeps-lost τ)
 
+  pub error-alone-lost : (τ : ℕ) {y a z : List ℕ} → Added (CodeArrayBy D) (c .degree) y a z → (l l′ : Left)
+      → DecodesLost L (given D τ y lent space) l → DecodesLost L (given D τ z lent space) l′
+      → (l′ .ending ≡ l .ending) × (l′ .buffers .flags ≡ l .buffers .flags)
+      × ((w : ℕ) → l .ending ≡ Corrected w → l′ .buffers .array ≡ add (gf (c .degree)) (l .buffers .array) a)
+  error-alone-lost τ = alone {Q = Promise τ} (adding-lost τ)
+
+  pub only-difference-lost : (τ : ℕ) {y a y′ a′ z : List ℕ} → Added (CodeArrayBy D) (c .degree) y a z
+      → Added (CodeArrayBy D) (c .degree) y′ a′ z → (l l′ : Left)
+      → DecodesLost L (given D τ y lent space) l → DecodesLost L (given D τ y′ lent space) l′
+      → shiftedBy (c .degree) a l ≡ shiftedBy (c .degree) a′ l′
+  only-difference-lost τ =
+      same-difference (CodeArrayBy D) (c .degree) (Promise τ) (λ y. lost.unique L (given D τ y lent space)) (keeps-lost τ)
+
   pub raising-lost : (y : List ℕ) → Raises (jointLimit (core c L)) (λ τ. DecodesLost L (given D τ y lent space))
   raising-lost y τ τ′ up within l l′ h h′ some = lost.unique L (given D τ′ y lent space) l l′
       (moves (checks τ y) (checks τ′ y) lent space (EndsAs τ y) (EndsAs τ′ y)
@@ -217,10 +230,27 @@ module _ (L : List ℕ) (D : Description) (lent : Buffers) (space : List ℕ) wh
 
 -- nothing is lost
 module _ (D : Description) (lent : Buffers) (space : List ℕ) where
+  keeps-all : (τ : ℕ) (y a z : List ℕ) → Added (CodeArrayBy D) (D .code .degree) y a z → (l : Left) → Decodes (given D τ y lent space) l
+      → Decodes (given D τ z lent space) (shiftedBy (D .code .degree) a l)
+  keeps-all τ y a z h l q = nothing-lost (given D τ z lent space) _ .0
+      (keeps-lost [] D lent space τ y a z h l (nothing-lost (given D τ y lent space) l .1 q))
+
   pub adding : (τ : ℕ) → Shifts (CodeArrayBy D) (D .code .degree) (λ y. Decodes (given D τ y lent space))
   adding τ = only-shifts (CodeArrayBy D) (D .code .degree) (λ y. Decodes (given D τ y lent space)) (λ y. unique (given D τ y lent space))
-      (λ y a z h l q. nothing-lost (given D τ z lent space) _ .0
-      (keeps-lost [] D lent space τ y a z h l (nothing-lost (given D τ y lent space) l .1 q)))
+      (keeps-all τ)
+
+  pub error-alone : (τ : ℕ) {y a z : List ℕ} → Added (CodeArrayBy D) (D .code .degree) y a z → (l l′ : Left)
+      → Decodes (given D τ y lent space) l → Decodes (given D τ z lent space) l′
+      → (l′ .ending ≡ l .ending) × (l′ .buffers .flags ≡ l .buffers .flags)
+      × ((w : ℕ) → l .ending ≡ Corrected w → l′ .buffers .array ≡ add (gf (D .code .degree)) (l .buffers .array) a)
+  error-alone τ = alone {Q = λ y. Decodes (given D τ y lent space)} (adding τ)
+
+  pub only-difference : (τ : ℕ) {y a y′ a′ z : List ℕ} → Added (CodeArrayBy D) (D .code .degree) y a z
+      → Added (CodeArrayBy D) (D .code .degree) y′ a′ z → (l l′ : Left)
+      → Decodes (given D τ y lent space) l → Decodes (given D τ y′ lent space) l′
+      → shiftedBy (D .code .degree) a l ≡ shiftedBy (D .code .degree) a′ l′
+  only-difference τ = same-difference (CodeArrayBy D) (D .code .degree) (λ y. Decodes (given D τ y lent space))
+      (λ y. unique (given D τ y lent space)) (keeps-all τ)
 
   pub raising : (y : List ℕ) → Raises (jointLimit (D .code)) (λ τ. Decodes (given D τ y lent space))
   raising y τ τ′ up within l l′ h h′ = raising-lost [] D lent space y τ τ′ up

@@ -1,16 +1,14 @@
 -- What a decoding promises: 01, 'Locators and endings'.
---
---   Given             what a decoding is given: the code description, the trial limit, the received array, the buffers and the space
---                     lent
---   Left              what it leaves: its ending, the buffers and the space
---   buffers, given, left    these of their parts
+
+--   Given             what a decoding is given: code description, trial limit, received array, and the buffers and space lent
+--   Left              what it leaves: its ending, the buffers and the space; buffers, given, left, these of their parts
 --   cleared w         a working space after a call that is not refused
 --   Decoding cs lent space E l    what every decoding promises, with its checks and its table of endings
 --   onCorrected f e b the buffers b, on 'corrected' with f of their array
 --   Struck D y E e left    the quotient of y ends as e by the table E, and its answer is multiplied back to left
---   checksOf g        the checks of the decoding of g
---   Decodes g l       the decoding of g leaves l
+--   Decodes g l       the decoding of g leaves l; checksOf g, its checks
 use mathlib.Core.Path.{_≡_}
+use mathlib.Core.Bool.{cond}
 use mathlib.Core.List.{List, _++_}
 use Prim.Native.Nat.{ℕ}
 use lib.ListN.{drop, replicate}
@@ -18,9 +16,9 @@ use Rattle.refusal.specs.Refusal.{Check}
 use Rattle.refusal.specs.Keeping.{Keeps}
 use Rattle.codes.specs.Factors.{Description, divided, multiplied}
 use Rattle.codes.specs.Checks.{spaceBytes, decodeChecks}
-use Rattle.ending.specs.Endings.{Buffers, Ends}
+use Rattle.ending.specs.Endings.{Buffers, Ends, isCorrected}
 use Rattle.ending.specs.declared.Ending.{Ending}
-use Rattle.ending.specs.declared.Ending.the-variants.{Refused, Corrected, Nothing, Several, Hollow}
+use Rattle.ending.specs.declared.Ending.the-variants.{Refused}
 
 pub record Given : Type 0 where
   pub description : Description
@@ -53,11 +51,7 @@ Decoding cs lent space E =
     Keeps cs (λ k. left (Refused k) lent space) (λ l. E (l .ending) (l .buffers) × (l .space ≡ cleared space))
 
 abbrev pub onCorrected : (List ℕ → List ℕ) → Ending → Buffers → Buffers
-onCorrected f (Corrected w) b = record { array = f (b .array); flags = b .flags }
-onCorrected f (Refused k) b = b
-onCorrected f Nothing b = b
-onCorrected f (Several t) b = b
-onCorrected f (Hollow t) b = b
+onCorrected f e b = buffers (cond (isCorrected e) (f (b .array)) (b .array)) (b .flags)
 
 -- 02, 2026-11: 'In the locators … y is the symbol divided by its column's factor, and the answer's rows are the quotients' values
 -- times the factors': E is the table of the quotient's endings

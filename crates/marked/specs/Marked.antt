@@ -1,8 +1,7 @@
 -- The marked examples: 01, 'Marked examples (P: to be proved)'.
---
+
 --   Example    what an example says, of one call
---   Lent       buffers are lent at their right lengths
---   Holds      that the call's promise is kept so, with factors of one
+--   Holds      that the call's promise is kept so, with factors of one; Lent, buffers are lent at their right lengths
 --   calls      P1 to P10, in order; marked, these and the three records as bytes and lines
 use mathlib.Core.Path.{_≡_}
 use mathlib.Core.List.{List, [], _∷_, _++_}
@@ -81,10 +80,7 @@ third = 0x42 ∷ 0x4D ∷ 0x04 ∷ 0x01 ∷ 0x03 ∷ 0x01 ∷ 0x01 ∷ 0x01 ∷ 
 unfoldable pub calls : List Example
 calls =
     -- 'P1: 2·3=6, 5·6=13, 9·10=5, 2·9=1.'
-    product 4 2 3 6
-    ∷ product 4 5 6 13
-    ∷ product 4 9 10 5
-    ∷ product 4 2 9 1
+    product 4 2 3 6 ∷ product 4 5 6 13 ∷ product 4 9 10 5 ∷ product 4 2 9 1
     -- 02, 2026-04: 'In P2, 128·2 becomes 45.' It is of GF(256).
     ∷ product 8 128 2 45
     -- 'P3: points 1 2 4 8 3, k=3, message 2 3 1 encodes to 0 0 13 5 2.'

@@ -1,5 +1,5 @@
 -- A row of numbers that lies in a list from a place on.
---
+
 --   part at n l    the n numbers of l from place at on
 --   lay at v l     l with the row v from place at on
 use Prim.Native.Nat.{ℕ}

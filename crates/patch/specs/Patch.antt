@@ -1,5 +1,5 @@
 -- What a loop that writes a part of a slice leaves in it.
---
+
 --   patch at n f l    l with f k at place at + k, for each k below n
 use Prim.Native.Nat.{ℕ, zero, suc, _+_}
 use mathlib.Core.List.{List}

@@ -1,12 +1,10 @@
 -- Polynomials as lists of coefficients, lowest first, over any arithmetic.
---
---   All P p         P holds of every entry of p
---   Zero A p        every coefficient is zero
+
+--   All P p         P holds of every entry of p; Zero A p, every coefficient is zero
 --   Poly A k p      p has k coefficients, all of them symbols: a polynomial with at most k coefficients (degree below k)
---   value A p x     the value of p at x
---   valuesAt A xs p the values of p at the points xs
+--   value A p x     the value of p at x; valuesAt A xs p, the values at the points xs
 --   add, scale, mul the sum, the multiple by a constant, the product
---   Fits A xs ys E N N(x) = y·E(x) at every point x of xs, with its y of ys
+--   Fits A xs ys E N    N(x) = y·E(x) at every point x of xs, with its y of ys
 use mathlib.Core.Path.{_≡_}
 use mathlib.Core.List.{List, [], _∷_, map}
 use Prim.Native.Nat.{ℕ}

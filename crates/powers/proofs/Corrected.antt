@@ -11,7 +11,7 @@
 -- Assumes nothing.
 use mathlib.Core.Path.{_≡_, refl, sym, ap, ap₂, _∙_, subst}
 use mathlib.Core.Logic.{_↔_, _⊎_, ⊎-elim, inl, inr}
-use mathlib.Core.List.{List, _++_, append-nil}
+use mathlib.Core.List.{List, _++_, append-nil, flatMap}
 use Prim.Native.Nat.{ℕ, zero, suc, _+_, _≤_, _<_}
 use native.Mathlib.Nat.{one-mul}
 use native.Mathlib.Omega.{arith}
@@ -31,9 +31,8 @@ use Rattle.codes.proofs.Limits.{Room, joint-room}
 use Rattle.ending.specs.Locators.{RowsDivide}
 use Rattle.ending.specs.Endings.{Buffers, Corrects}
 use Rattle.ending.proofs.Rows.{poly-product, fits-unique, fits-product}
-use Rattle.powers.specs.Powers.{powerLength, powerLengthsFrom, powerLengths, powerRow, powerRowsFrom, powerRows, rowCode, powerCode}
-use Rattle.powers.specs.Powers.{powerOf, powersFrom, powersOf}
-use Rattle.powers.specs.Working.{Row, Shape}
+use Rattle.powers.specs.Powers.{upFrom, powerLength, powerLengths, powerRow, powerRows, rowCode, powerCode, powerOf, powersOf}
+use Rattle.powers.specs.Working.{powerLengthsFrom, powerRowsFrom, powersFrom, Row, Shape}
 use Rattle.powers.proofs.Polynomials.{power-symbols, poly-power, value-power, encoded-powers, powers-message}
 use Rattle.powers.proofs.Sizes.{length-one}
 use Rattle.powers.proofs.Rows.{length-row, getD-row, row-in, first-power, other-powers, first-row, flags-powers}
@@ -120,7 +119,7 @@ module _ {d : ℕ} {xs : List ℕ} {k s : ℕ} (h : Shape d xs k s) where
     each-power : Right → (i r : ℕ) (m : List ℕ) → length m ≡ total (powerLengthsFrom k i r) → All (IsSymbol d) m
         → Room n t (powerLengthsFrom k i r) → RowsDivide A xs t E (powerLengthsFrom k i r) (powerRowsFrom d i r z) m
         → m ≡ powersFrom A f i r
-    unfolding powerLengthsFrom powersFrom total
+    unfolding upFrom flatMap total
     each-power right i zero m l q room divides = sym (empty m l)
     each-power right i (suc r) m l q room ((N, p, fits, e), rest) =
         sym (take-append-drop (powerLength k i) m)
@@ -144,7 +143,7 @@ module _ {d : ℕ} {xs : List ℕ} {k s : ℕ} (h : Shape d xs k s) where
         → RowsDivide A xs t E (powerLengths k r) (powerRows d r z) m
         → Poly A k (take k m)
         × ((j : ℕ) → j < n → (value A E (getD xs j 0) ≡ 0) ⊎ (getD z j 0 ≡ value A (take k m) (getD xs j 0)))
-    unfolding powerLengthsFrom total
+    unfolding upFrom total
     first-right t zero E m some e l q divides = absurd (omega arith)
     first-right t (suc r) E m some e l q ((N, p, fits, is), rest) =
         let f : Poly A k (take k m) = poly-take A k m (omega (arith, length-one k (h .some))) q in

@@ -27,7 +27,7 @@ use Rattle.joint.specs.Promises.{Left, buffers, cleared, onCorrected}
 use Rattle.joint.specs.Promises as Joint
 use Rattle.joint.proofs.Struck.{kept-else, ones-struck}
 use Rattle.powers.specs.Powers.{powerRows, powerCode}
-use Rattle.powers.specs.Promises.{given, PowerEnds, EndsAs}
+use Rattle.powers.specs.Promises.{PowerEnds, EndsAs}
 use Rattle.powers.specs.Working.{Row, Shape, Ready}
 use Rattle.powers.proofs.Rows.{rows-array}
 use Rattle.powers.proofs.Corrected.{word-row, corrected-first, corrected-word}
@@ -86,7 +86,7 @@ module _ {d k s : ℕ} {xs : List ℕ} {τ : ℕ} {z a f w : List ℕ} (h : Read
       array = rows-array d (h .shape .proper .field) xs k s (h .row)
 
 -- the first row given back: unless the ending is 'corrected', the buffers stay as lent
-module _ (d k s : ℕ) (xs fs : List ℕ) (τ : ℕ) (y a f w : List ℕ) {z : List ℕ} (quotient : z ≡ divided (descriptionOf d xs fs (k ∷ [])) y)
+module _ (d k s : ℕ) (xs fs : List ℕ) (τ : ℕ) (y a f : List ℕ) {z : List ℕ} (quotient : z ≡ divided (descriptionOf d xs fs (k ∷ [])) y)
     (b b′ f′ a′ : List ℕ) where
   abbrev Back : Ending → Type 0
   Back e = buffers a′ f′ ≡ released e (buffers (withFactors (times d) fs 1 (take (length xs) b′)) f′) (buffers a f′)
@@ -98,7 +98,7 @@ module _ (d k s : ℕ) (xs fs : List ℕ) (τ : ℕ) (y a f w : List ℕ) {z : L
   as-lent e k = k ∙ ap (λ (l : Buffers). buffers a (l .flags)) e
 
   ends-by : (e : Ending) → Powers (divided (descriptionOf d xs fs (k ∷ [])) y) e → Back e
-      → EndsAs (given d k s xs fs τ y (buffers a f) w) e (buffers a′ f′)
+      → EndsAs d k s xs fs τ y (buffers a f) e (buffers a′ f′)
   ends-by (Refused n) h back = absurd h
   ends-by (Corrected t) h back = record {
     answer = buffers (take (length xs) b′) f′;
@@ -121,5 +121,5 @@ module _ (d k s : ℕ) (xs fs : List ℕ) (τ : ℕ) (y a f w : List ℕ) {z : L
     back = as-lent (h .2) back;
   }
 
-  pub power-ends : (e : Ending) → Powers z e → Back e → EndsAs (given d k s xs fs τ y (buffers a f) w) e (buffers a′ f′)
+  pub power-ends : (e : Ending) → Powers z e → Back e → EndsAs d k s xs fs τ y (buffers a f) e (buffers a′ f′)
   power-ends e h = ends-by e (subst (λ (z : List ℕ). Powers z e) quotient h)

@@ -9,7 +9,7 @@
 --   powers-message           the powers are a message of the s rows; encoded-powers, its code array has the powers of the row
 -- Assumes nothing.
 use mathlib.Core.Path.{_≡_, refl, ap, ap₂, _∙_}
-use mathlib.Core.List.{List, [], _∷_, _++_}
+use mathlib.Core.List.{List, [], _∷_, _++_, flatMap}
 use Prim.Native.Nat.{ℕ, zero, suc, _-_, _*_, _≤_}
 use native.Mathlib.Nat.{suc-mul}
 use native.Mathlib.Omega.{arith}
@@ -26,8 +26,8 @@ use Rattle.poly.proofs.Values.{value-const, value-mul}
 use Rattle.codes.specs.Code.{IsMessage, total, encodedRows, encoded}
 use Rattle.codes.proofs.Parts.{all-append}
 use Rattle.codes.proofs.Factors.{Factor}
-use Rattle.powers.specs.Powers.{powerLength, powerLengthsFrom, powerRow, powerRowsFrom, powerRows, powerCode}
-use Rattle.powers.specs.Powers.{powerOf, powersFrom, powersOf}
+use Rattle.powers.specs.Powers.{upFrom, powerLength, powerRow, powerRows, powerCode, powerOf, powersOf}
+use Rattle.powers.specs.Working.{powerLengthsFrom, powerRowsFrom, powersFrom}
 
 -- a product of products
 exchange : {K : Type 0} (A : Arithmetic K) (𝓕 : Field A) (a b u v : K) {w : K} → A .times u v ≡ w
@@ -80,7 +80,7 @@ module _ {K : Type 0} (A : Arithmetic K) (𝓕 : Field A) where
 
   -- the powers of a polynomial, row after row
   powers-length : {k : ℕ} (f : List K) (i s : ℕ) → 1 ≤ k → length f ≡ k → length (powersFrom A f i s) ≡ total (powerLengthsFrom k i s)
-  unfolding powersFrom powerLengthsFrom total
+  unfolding upFrom flatMap total
   powers-length f i zero some h = refl
   powers-length {k} f i (suc s) some h = omega (
     arith,
@@ -90,7 +90,7 @@ module _ {K : Type 0} (A : Arithmetic K) (𝓕 : Field A) where
   )
 
   powers-symbols : (f : List K) (i s : ℕ) → All (A .In) (powersFrom A f i s)
-  unfolding powersFrom
+  unfolding upFrom flatMap
   powers-symbols f i zero = tt
   powers-symbols f i (suc s) =
       all-append (A .In) (powerOf A f i) (powersFrom A f (suc i) s) (power-symbols f i) (powers-symbols f (suc i) s)
@@ -109,7 +109,7 @@ module _ (d : ℕ) (𝓕 : Field (gf d)) where
   module _ (xs : List ℕ) {k : ℕ} (some : 1 ≤ k) {f : List ℕ} (h : Poly (gf d) k f) where
     encoded-from : (i s : ℕ)
         → encodedRows (gf d) xs (powerLengthsFrom k i s) (powersFrom (gf d) f i s) ≡ powerRowsFrom d i s (valuesAt (gf d) xs f)
-    unfolding encodedRows powerLengthsFrom powersFrom powerRowsFrom
+    unfolding encodedRows upFrom flatMap
     encoded-from i zero = refl
     encoded-from i (suc s) =
         let p : List ℕ = powerOf (gf d) f i in

@@ -5,7 +5,7 @@
 --   power-symbols                p begins with symbols
 -- Assumes nothing.
 use mathlib.Core.Path.{_≡_, refl, sym, ap, ap₂, _∙_}
-use mathlib.Core.List.{List, _++_}
+use mathlib.Core.List.{List, _++_, flatMap}
 use Prim.Native.Nat.{ℕ, suc, _+_, _-_, _*_, _≤_, _<_}
 use native.Mathlib.Nat.{suc-mul, zero-add}
 use native.Mathlib.Numerals.{add-one}
@@ -22,8 +22,8 @@ use Rattle.field.proofs.Instance.{field}
 use Rattle.field.proofs.Sums.{plus-zero}
 use Rattle.lists.specs.Working.Lists.{SymbolsAt, multiplied, multipliedAt}
 use Rattle.codes.proofs.Parts.{all-at}
-use Rattle.powers.specs.Powers.{powerRow, powerRowsFrom, powerRows}
-use Rattle.powers.specs.Working.{Raising}
+use Rattle.powers.specs.Powers.{upFrom, powerRow, powerRows}
+use Rattle.powers.specs.Working.{powerRowsFrom, Raising}
 use Rattle.powers.proofs.Rows.{length-row, getD-row, row-in, row-one, length-rows}
 
 pub record Raised (d s : ℕ) (z l₀ l p : List ℕ) (at i : ℕ) : Type 0 where
@@ -36,7 +36,7 @@ pub record Raised (d s : ℕ) (z l₀ l p : List ℕ) (at i : ℕ) : Type 0 wher
 
 -- the first of the powers, and the others
 one-more : (d i m : ℕ) (z : List ℕ) {j : ℕ} → i ≡ j → powerRow d i z ++ powerRowsFrom d (suc j) m z ≡ powerRowsFrom d i (suc m) z
-unfolding powerRowsFrom
+unfolding upFrom flatMap
 one-more d i m z e = ap (λ (j : ℕ). powerRow d i z ++ powerRowsFrom d (suc j) m z) (sym e)
 
 module _ {d s : ℕ} {z l₀ : List ℕ} (g : Raising d s z l₀) where
@@ -107,7 +107,7 @@ module _ {d s : ℕ} {z l₀ : List ℕ} (g : Raising d s z l₀) where
             (omega (arith, ap length rows, length-rows d (suc i) (s - i) z, h .place, h .same, g .room)) ∙ ap (λ (r : List ℕ). lay at r l) rows
 
   pub raised-all : {l p : List ℕ} {at i : ℕ} → Raised d s z l₀ l p at i → ¬ (i < s) → l ≡ lay 0 (powerRows d s z) l₀
-  unfolding powerRowsFrom
+  unfolding upFrom flatMap
   raised-all {l = l} {at = at} {i = i} h done =
       let none : s - i ≡ 0 = omega (arith, h .within) in
       sym (lay-none at l) ∙ ap (λ (m : ℕ). lay at (powerRowsFrom d (suc i) m z) l) (sym none) ∙ h .so-far

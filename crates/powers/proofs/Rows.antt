@@ -10,7 +10,7 @@
 -- Assumes nothing.
 use mathlib.Core.Path.{_≡_, refl, sym, ap, ap₂, _∙_}
 use mathlib.Core.Bool.{Bool, false, not, _||_}
-use mathlib.Core.List.{List, [], _∷_}
+use mathlib.Core.List.{List, [], _∷_, flatMap}
 use Prim.Native.Nat.{ℕ, zero, suc, _*_, _≤_, _<_}
 use native.Mathlib.Nat.{suc-mul, zero-mul}
 use native.Mathlib.Decide.{ℕ-discrete}
@@ -26,8 +26,8 @@ use Rattle.poly.specs.Poly.{All}
 use Rattle.codes.specs.Code.{IsArray, differs, differsAt, flagsOf}
 use Rattle.codes.proofs.Parts.{all-append, all-at}
 use Rattle.codes.proofs.Flags.{flags-same}
-use Rattle.powers.specs.Powers.{powerRow, powerRowsFrom, powerRows, rowCode, powerCode}
-use Rattle.powers.specs.Working.{Row}
+use Rattle.powers.specs.Powers.{upFrom, powerRow, powerRows, rowCode, powerCode}
+use Rattle.powers.specs.Working.{powerRowsFrom, Row}
 use Rattle.powers.proofs.Polynomials.{raised-in, raised-one}
 use Rattle.powers.proofs.Sizes.{length-powers}
 
@@ -43,7 +43,7 @@ module _ (d : ℕ) where
   getD-row i (a ∷ z) (suc j) h = getD-row i z j (omega arith)
 
   pub length-rows : (i s : ℕ) (z : List ℕ) → length (powerRowsFrom d i s z) ≡ s * length z
-  unfolding powerRowsFrom
+  unfolding upFrom flatMap
   length-rows i zero z = sym (zero-mul (length z))
   length-rows i (suc s) z = omega (
     arith,
@@ -55,15 +55,15 @@ module _ (d : ℕ) where
 
   module _ (i s : ℕ) (z : List ℕ) where
     pub first-power : take (length z) (powerRowsFrom d i (suc s) z) ≡ powerRow d i z
-    unfolding powerRowsFrom
+    unfolding upFrom flatMap
     first-power = take-at (powerRow d i z) (powerRowsFrom d (suc i) s z) (length z) (length-row i z)
 
     pub other-powers : drop (length z) (powerRowsFrom d i (suc s) z) ≡ powerRowsFrom d (suc i) s z
-    unfolding powerRowsFrom
+    unfolding upFrom flatMap
     other-powers = drop-at (powerRow d i z) (powerRowsFrom d (suc i) s z) (length z) (length-row i z)
 
     power-at : (j : ℕ) → j < length z → getD (powerRowsFrom d i (suc s) z) j 0 ≡ raised d (getD z j 0) i
-    unfolding powerRowsFrom
+    unfolding upFrom flatMap
     power-at j h = List·getD-append (powerRow d i z) (powerRowsFrom d (suc i) s z) 0 j (omega (arith, length-row i z)) ∙ getD-row i z j h
 
   -- where two rows agree, so do their powers
@@ -91,7 +91,7 @@ module _ (d : ℕ) where
     row-one (a ∷ z) h = ap₂ _∷_ (raised-one d 𝓕 a (h .0)) (row-one z (h .1))
 
     pub rows-in : (i s : ℕ) (z : List ℕ) → All (IsSymbol d) (powerRowsFrom d i s z)
-    unfolding powerRowsFrom
+    unfolding upFrom flatMap
     rows-in i zero z = tt
     rows-in i (suc s) z =
         all-append (IsSymbol d) (powerRow d i z) (powerRowsFrom d (suc i) s z) (row-in i z) (rows-in (suc i) s z)

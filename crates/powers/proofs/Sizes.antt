@@ -19,15 +19,16 @@ use Rattle.patch.proofs.Parts.{patch-is-lay, take-lay}
 use Rattle.refusal.specs.Refusal.{isIn}
 use Rattle.refusal.proofs.Repeats.{stands-not}
 use Rattle.codes.proofs.Proper.{Within}
-use Rattle.powers.specs.Powers.{powerLength, powerLengthsFrom, powerLengths}
+use Rattle.powers.specs.Powers.{upFrom, powerLength, powerLengths}
+use Rattle.powers.specs.Working.{powerLengthsFrom}
 
 pub length-powers : (k i s : ℕ) → length (powerLengthsFrom k i s) ≡ s
-unfolding powerLengthsFrom
+unfolding upFrom
 length-powers k i zero = refl
 length-powers k i (suc s) = ap suc (length-powers k (suc i) s)
 
 pub getD-powers : (k i s j : ℕ) → j < s → getD (powerLengthsFrom k i s) j 0 ≡ powerLength k (i + j)
-unfolding powerLengthsFrom
+unfolding upFrom
 getD-powers k i zero j h = absurd (omega arith)
 getD-powers k i (suc s) zero h = ap (powerLength k) (omega arith)
 getD-powers k i (suc s) (suc j) h = getD-powers k (suc i) s j (omega arith) ∙ ap (powerLength k) (omega arith)
@@ -47,7 +48,7 @@ length-most k i s h = omega (arith, mul-le-mul-right (k - 1) h)
 
 module _ (k n : ℕ) where
   within-from : (i s : ℕ) → ((j : ℕ) → j < i + s → powerLength k j ≤ n) → Within 1 n (powerLengthsFrom k i s)
-  unfolding powerLengthsFrom
+  unfolding upFrom
   within-from i zero h = tt
   within-from i (suc s) h = ((omega arith, h i (omega arith)), within-from (suc i) s (λ j q. h j (omega arith)))
 

@@ -1,41 +1,34 @@
 -- One row read as several: 02, 2026-09, 'raise each received symbol to the powers 1 to s, giving s rows with message lengths i(k−1)+1'.
---
---   powerLength k i          the message length of the power i
---   powerLengths k s         those of the powers 1 to s; powerLengthsFrom k i s, of s powers from i on
---   powerRow d i z           each symbol of the row z to the power i
---   powerRows d s z          the powers 1 to s of a row, row after row; powerRowsFrom d i s z, s powers from i on
---   rowCode d xs k           the single-row code
---   powerCode d xs k s       the code of the s rows
---   powerOf A f i            the power i of a polynomial
---   powersOf A f s           the powers 1 to s of a polynomial, row after row; powersFrom A f i s, s powers from i on
-use mathlib.Core.List.{List, [], _∷_, _++_, map}
+
+--   upFrom i n               the n numbers from i on
+--   powerLength k i          the message length of the power i; powerLengths k s, those of the powers 1 to s
+--   powerRow d i z           each symbol of the row z to the power i; powerRows d s z, the powers 1 to s, row after row
+--   rowCode d xs k           the single-row code; powerCode d xs k s, the code of the s rows
+--   powerOf A f i            the power i of a polynomial; powersOf A f s, the powers 1 to s, row after row
+use mathlib.Core.List.{List, [], _∷_, map, flatMap}
 use Prim.Native.Nat.{ℕ, zero, suc, _+_, _-_, _*_}
 use Rattle.field.specs.Symbols.{raised}
 use Rattle.field.specs.Arithmetic.{Arithmetic}
 use Rattle.poly.specs.Poly.{mul}
 use Rattle.codes.specs.Code.{Code, codeOf}
 
+unfoldable pub upFrom : (i n : ℕ) → List ℕ
+upFrom i zero = []
+upFrom i (suc n) = i ∷ upFrom (suc i) n
+
 -- 'message lengths i(k−1)+1'
 abbrev pub powerLength : (k i : ℕ) → ℕ
 powerLength k i = i * (k - 1) + 1
 
-unfoldable pub powerLengthsFrom : (k i s : ℕ) → List ℕ
-powerLengthsFrom k i zero = []
-powerLengthsFrom k i (suc s) = powerLength k i ∷ powerLengthsFrom k (suc i) s
-
 abbrev pub powerLengths : (k s : ℕ) → List ℕ
-powerLengths k s = powerLengthsFrom k 1 s
+powerLengths k s = map (powerLength k) (upFrom 1 s)
 
 -- 'raise each received symbol to the powers 1 to s, giving s rows'
 unfoldable pub powerRow : (d i : ℕ) → List ℕ → List ℕ
 powerRow d i z = map (λ a. raised d a i) z
 
-unfoldable pub powerRowsFrom : (d i s : ℕ) → List ℕ → List ℕ
-powerRowsFrom d i zero z = []
-powerRowsFrom d i (suc s) z = powerRow d i z ++ powerRowsFrom d (suc i) s z
-
 abbrev pub powerRows : (d s : ℕ) → List ℕ → List ℕ
-powerRows d s z = powerRowsFrom d 1 s z
+powerRows d s z = flatMap (λ i. powerRow d i z) (upFrom 1 s)
 
 -- 'the single-row code'
 abbrev pub rowCode : (d : ℕ) (points : List ℕ) (k : ℕ) → Code
@@ -50,9 +43,5 @@ module _ {K : Type 0} (A : Arithmetic K) where
   powerOf f zero = A .one ∷ []
   powerOf f (suc i) = mul A f (powerOf f i)
 
-  unfoldable pub powersFrom : List K → (i s : ℕ) → List K
-  powersFrom f i zero = []
-  powersFrom f i (suc s) = powerOf f i ++ powersFrom f (suc i) s
-
   abbrev pub powersOf : List K → (s : ℕ) → List K
-  powersOf f s = powersFrom f 1 s
+  powersOf f s = flatMap (powerOf f) (upFrom 1 s)

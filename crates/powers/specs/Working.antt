@@ -1,5 +1,6 @@
 -- What the functions inside ask. No promise cites these.
 --
+--   powerLengthsFrom, powerRowsFrom, powersFrom    message lengths, rows and polynomials of s powers from i on
 --   Row d n z              z is a row of n symbols
 --   Shape d xs k s         a code of s rows that is proper, and so is that of the single row
 --   Countable k i          the message length of the power i is a small number
@@ -10,11 +11,12 @@
 --   Giving e d fs z a      on 'corrected', a row z that is to be struck with the factors fs, and room for it
 use mathlib.Core.Path.{_≡_}
 use mathlib.Core.Bool.{false}
-use mathlib.Core.List.{List}
+use mathlib.Core.List.{List, map, flatMap}
 use Prim.Native.Nat.{ℕ, _*_, _≤_}
 use lib.ListN.{length}
 use Rattle.refusal.specs.Refusal.{badDegree}
 use Rattle.field.specs.Symbols.{IsSymbol}
+use Rattle.field.specs.Arithmetic.{Arithmetic}
 use Rattle.poly.specs.Poly.{All}
 use Rattle.codes.specs.Code.{jointLimit}
 use Rattle.codes.specs.Checks.{unchecked, spaceBytes}
@@ -23,7 +25,16 @@ use Rattle.codes.proofs.Passed.{Counts}
 use Rattle.factors.specs.Working.{Striking}
 use Rattle.ending.specs.declared.Ending.{Ending}
 use Rattle.ending.specs.declared.Ending.the-variants.{Corrected}
-use Rattle.powers.specs.Powers.{powerLength, powerCode}
+use Rattle.powers.specs.Powers.{upFrom, powerLength, powerRow, powerCode, powerOf}
+
+abbrev pub powerLengthsFrom : (k i s : ℕ) → List ℕ
+powerLengthsFrom k i s = map (powerLength k) (upFrom i s)
+
+abbrev pub powerRowsFrom : (d i s : ℕ) → List ℕ → List ℕ
+powerRowsFrom d i s z = flatMap (λ i. powerRow d i z) (upFrom i s)
+
+abbrev pub powersFrom : {K : Type 0} → Arithmetic K → List K → (i s : ℕ) → List K
+powersFrom A f i s = flatMap (powerOf A f) (upFrom i s)
 
 pub record Row (d n : ℕ) (z : List ℕ) : Type 0 where
   pub count : length z ≡ n

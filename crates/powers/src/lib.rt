@@ -12,7 +12,7 @@ ghost use Rattle.finish.specs.Working.{released};
 ghost use Rattle.joint.specs.Promises.{buffers, cleared, left};
 ghost use Rattle.powers.specs.Powers.{powerCode, powerLength, powerLengths, powerRows};
 ghost use Rattle.powers.specs.Checks.{countedLengths, decodeChecks, shapeChecks};
-ghost use Rattle.powers.specs.Promises.{Decodes, EndsAs, checksOf, given};
+ghost use Rattle.powers.specs.Promises.{Decodes, EndsAs};
 ghost use Rattle.powers.specs.Working.{Countable, Counted, Giving, Raising, Ready, Short};
 use ending::Ending;
 use field::tables;
@@ -199,8 +199,8 @@ fn work(
     requires { ⌜ 0 ≡ first (decodeChecks degree k powers (now points) (now factors) limit (now received) (now answer) (now flags)
         (now space)) ⌝ }
     ensures { λ r. ⌜ EndsAs
-        (given degree k powers (now (points .entry)) (now (factors .entry)) limit (now (received .entry))
-        (buffers (now (answer .entry)) (now (flags .entry))) (now (space .entry)))
+        degree k powers (now (points .entry)) (now (factors .entry)) limit (now (received .entry))
+        (buffers (now (answer .entry)) (now (flags .entry)))
         r (buffers (now (answer .exit)) (now (flags .exit)))
         × (now (space .exit) ≡ cleared (now (space .entry))) ⌝ }
 {
@@ -240,8 +240,8 @@ pub fn decode(
     space: &mut [u8],
 ) -> Ending
     ensures { λ r. ⌜ Decodes
-        (given degree k powers (now (points .entry)) (now (factors .entry)) limit (now (received .entry))
-        (buffers (now (answer .entry)) (now (flags .entry))) (now (space .entry)))
+        degree k powers (now (points .entry)) (now (factors .entry)) limit (now (received .entry))
+        (buffers (now (answer .entry)) (now (flags .entry))) (now (space .entry))
         (left r (buffers (now (answer .exit)) (now (flags .exit))) (now (space .exit))) ⌝ }
 {
     let refused = decode_refusal(

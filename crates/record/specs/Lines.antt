@@ -1,7 +1,6 @@
 -- The line of a record: 01, 'Records on standard input'.
---
---   ascii s              the bytes of a text
---   decimal n            the decimal digits of a number
+
+--   ascii s              the bytes of a text; decimal n, the decimal digits of a number
 --   word e, detail e     the ending's word, and the third field
 --   wrongFrom i fs       the columns that the flags fs name, the first of which is that of column i
 --   wrongColumns e fs    the wrong columns of an ending
@@ -13,7 +12,7 @@ use Prim.Native.Nat.{ℕ, zero, suc, _+_, _/_, _%_}
 use Prim.Native.Char.{code}
 use Prim.Native.String.{String, [] as nil, _∷_ as _then_}
 use lib.Dec.{ltb}
-use Rattle.ending.specs.Endings.{meaning}
+use Rattle.ending.specs.Endings.{meaning, isCorrected}
 use Rattle.ending.specs.declared.Ending.{Ending}
 use Rattle.ending.specs.declared.Ending.the-variants.{Refused, Corrected, Nothing, Several, Hollow}
 
@@ -53,11 +52,7 @@ wrongFrom i (suc f ∷ fs) = i ∷ wrongFrom (suc i) fs
 
 -- 'of n flags each is 1 where the column was wrong', on "corrected" alone
 abbrev pub wrongColumns : Ending → List ℕ → List ℕ
-wrongColumns (Refused k) fs = []
-wrongColumns (Corrected w) fs = wrongFrom 0 fs
-wrongColumns Nothing fs = []
-wrongColumns (Several t) fs = []
-wrongColumns (Hollow t) fs = []
+wrongColumns e fs = cond (isCorrected e) (wrongFrom 0 fs) []
 
 -- 'joined by commas'; 'the fourth is `-` where there are no wrong columns'
 unfoldable pub commas : List ℕ → List ℕ

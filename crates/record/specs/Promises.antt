@@ -1,5 +1,5 @@
 -- What the answer to a record promises: 01, 'Records on standard input'.
---
+
 --   recordIn w b              what the decoding of the record at the front of b is given
 --   LineOf number g line      line is the line of the record whose decoding is given g
 --   meaning r                 the number and values of a reply

@@ -1,10 +1,9 @@
 -- A record in a list of bytes: 01, 'Records on standard input'. The list is all that is left of the input.
---
---   mark             the two bytes that a record begins with
+
+--   mark             the two bytes that a record begins with; begins m b, b begins with m
 --   degreeIn, rowsIn, columnsIn, lengthsIn, limitIn, pointsIn, symbolsIn    the parts of a record, in their order
---   codeIn           its code; describedIn, its code with factors of one
 --   sizeIn           how many bytes it has
---   begins m b       b begins with m
+--   codeIn           its code; describedIn, its code with factors of one
 --   outOfRange       r or n is out of range
 --   stopChecks       the reasons to stop, in order; stopOf, the number of the first that applies
 --   wanted           how many bytes decide the answer, as far as the bytes so far show
@@ -72,13 +71,9 @@ outOfRange b = outside 1 4 (rowsIn b) || outside 1 96 (columnsIn b)
 -- with r or n out of range', whose number is the first of 1, 2 and 3 that applies.
 abbrev pub stopChecks : List ℕ → List Check
 stopChecks b =
-    (12 when noMark b)
-    ∷ (13 when ltb (length b) 5)
-    ∷ (1 when outOfRange b && badDegree (degreeIn b))
-    ∷ (2 when outside 1 4 (rowsIn b))
-    ∷ (3 when outside 1 96 (columnsIn b))
-    ∷ (13 when ltb (length b) (sizeIn b))
-    ∷ []
+    (12 when noMark b) ∷ (13 when ltb (length b) 5)
+    ∷ (1 when outOfRange b && badDegree (degreeIn b)) ∷ (2 when outside 1 4 (rowsIn b)) ∷ (3 when outside 1 96 (columnsIn b))
+    ∷ (13 when ltb (length b) (sizeIn b)) ∷ []
 
 unfoldable pub stopOf : List ℕ → ℕ
 stopOf b = first (stopChecks b)
@@ -87,7 +82,6 @@ stopOf b = first (stopChecks b)
 unfoldable pub wanted : List ℕ → ℕ
 wanted b = cond (ltb (length b) 2 || noMark b) 2 (cond (ltb (length b) 5 || outOfRange b) 5 (sizeIn b))
 
--- r is n, and at most m
 pub record AtMost (m n r : ℕ) : Type 0 where
   pub is : r ≡ n
   pub most : r ≤ m

@@ -1,5 +1,5 @@
 -- The promise of a call that makes checks: refused by the first that applies, and else as the call's own table says.
---
+
 --   By n refused Done l       by the number n of the first check that applies, 0 for none
 --   Keeps cs refused Done l   the same for the checks cs
 use mathlib.Core.Path.{_≡_}

@@ -1,9 +1,8 @@
 -- What an answer means, as numbers: 01, 'Any answer that is an enum has a definition. The definition gives this paper's number and
 -- values for each of the enum's cases, and the promises use it.' An enum's own definition is the `meaning` beside its promise.
---
---   Meaning      a number, and values
+
+--   Meaning      a number, and values; numberOf, detailOf, the number and the first value, 0 where there is none
 --   refusal k    the meaning of 'refused' in every enum
---   numberOf, detailOf    the number, and the first value; 0 where there is none
 --   packed       the one number for the C caller
 use mathlib.Core.List.{List, [], _∷_}
 use Prim.Native.Nat.{ℕ, _+_, _*_}

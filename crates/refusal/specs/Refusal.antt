@@ -1,12 +1,11 @@
 -- Refusals: 01, 'Refusal numbers, in order of checking'.
---
---   k when b         the check that gives the number k when the test b holds
---   first cs         the number of the first check of cs that applies; 0 where none does
---   badDegree        the test of number 1
---   outside          a number is not from lo to hi: 2, 3, 4
---   badPoints        the test of number 6
---   badColumns       the test of number 16
---   outsideField     the test of number 7, for one symbol; someOutsideField, for a list
+
+--   k when b       the check that gives the number k when the test b holds
+--   first cs       the number of the first check of cs that applies; 0 where none does
+--   badDegree, badPoints, badColumns    the tests of the numbers 1, 6 and 16
+--   outside lo hi n    n is not from lo to hi: 2 and 3; someOutside, a number of a list is not: 4
+--   outsideField, someOutsideField      the test of number 7 for one symbol, and for a list
+--   isIn x l       x stands in the list l; repeated xs, a point of the list xs stood earlier
 use Prim.Native.Nat.{ℕ, _-_, _^_}
 use mathlib.Core.Bool.{Bool, false, cond, not, _||_}
 use mathlib.Core.List.{List, [], _∷_}
@@ -25,7 +24,6 @@ first ((k when b) ∷ cs) = cond b k (first cs)
 unfoldable pub badDegree : ℕ → Bool
 badDegree d = not (eqb d 2 || eqb d 4 || eqb d 8)
 
--- a number is not lo to hi
 unfoldable pub outside : ℕ → ℕ → ℕ → Bool
 outside lo hi n = ltb n lo || ltb hi n
 
@@ -42,12 +40,10 @@ unfoldable pub someOutsideField : ℕ → List ℕ → Bool
 someOutsideField d [] = false
 someOutsideField d (a ∷ l) = outsideField d a || someOutsideField d l
 
--- x stands in the list
 unfoldable pub isIn : ℕ → List ℕ → Bool
 isIn x [] = false
 isIn x (a ∷ l) = eqb x a || isIn x l
 
--- a point of the list stood earlier
 unfoldable pub repeated : List ℕ → Bool
 repeated [] = false
 repeated (x ∷ xs) = isIn x xs || repeated xs

@@ -7,7 +7,7 @@
 --   read-refused                    otherwise it answers the first check's number, or 9, and leaves the buffer as lent
 --   read-written                    reading what encoding wrote gives the message back
 --
--- 'Nothing by halves', of decoding: g is what a decoding is given, and l what it leaves.
+-- 'Nothing by halves', of decoding: l is what it leaves.
 --   refused-exactly     it is refused exactly when a check applies
 --   refused-leaves      then its number is that of the first that does, of 10, 11, 5, 7 and 8, and word, flags and working
 --                       space are as lent
@@ -38,7 +38,7 @@ use Rattle.refusal.specs.Refusal.{Check, _when_, first, isIn}
 use Rattle.refusal.specs.Meaning.{detailOf}
 use Rattle.poly.proofs.Roots.{Mem}
 use Rattle.codes.specs.Code.{Code, IsMessage, total, differs, flagsFrom, safeLimit}
-use Rattle.codes.specs.Lost.{core, right, twosAt}
+use Rattle.codes.specs.Lost.{core, right, twosAt, wrongAmong, flagsLost}
 use Rattle.codes.specs.Near.{Nearest, Near, Far}
 use Rattle.codes.specs.Checks.{spaceBytes}
 use Rattle.codes.proofs.Flags.{flags-length}
@@ -53,9 +53,9 @@ use Rattle.ending.specs.declared.Ending.the-variants.{Refused, Corrected, Nothi
 use Rattle.joint.specs.Promises as Joint
 use Rattle.joint.proofs.Halves.{IsRefused, IsCorrected}
 use Rattle.hermitian.specs.Ring.{ringCode, ringWord, RingWord, IsRing, differsIn, sectorFlags, wrongSectors}
-use Rattle.hermitian.specs.Checks.{encodeChecks, readChecks}
-use Rattle.ring.specs.Promises.{Encodes, Reads, Given, given, checksOf, Decodes}
-use Rattle.ring.specs.Lost.{wrongAmong, flagsLost, DecodesLost}
+use Rattle.hermitian.specs.Checks.{encodeChecks, readChecks, decodeChecks}
+use Rattle.ring.specs.Promises.{Encodes, Reads, Decodes}
+use Rattle.ring.specs.Lost.{DecodesLost}
 use Rattle.hermitian.proofs.Words.{word-ring}
 use Rattle.hermitian.proofs.Passed.{encoding, reads-on}
 use Rattle.ring.proofs.Lost.{none-checks, nothing-lost}
@@ -119,83 +119,81 @@ module _ (q : ℕ) (y v : List ℕ) where
   sized : length (sectorFlags q y v) ≡ q * q
   sized = flags-length (differsIn q y v) 0 (q * q)
 
-  all-sectors : wrongAmong q [] y v ≡ wrongSectors q y v
+  all-sectors : wrongAmong (q * q) [] (sectorFlags q y v) ≡ wrongSectors q y v
   all-sectors = ap total (subst (λ (n : ℕ). right (flagsFrom (λ j. isIn j []) 0 n) (sectorFlags q y v) ≡ sectorFlags q y v) sized
       (left-all 0 (sectorFlags q y v)))
 
-  all-flags : flagsLost q [] y v ≡ sectorFlags q y v
+  all-flags : flagsLost (q * q) [] (sectorFlags q y v) ≡ sectorFlags q y v
   all-flags = subst (λ (n : ℕ). twosAt (flagsFrom (λ j. isIn j []) 0 n) (sectorFlags q y v) ≡ sectorFlags q y v) sized
       (no-twos 0 (sectorFlags q y v))
 
 -- every theorem is that of the decoding with lost sectors, of which there are none
-module _ (g : Given) (l : Joint.Left) (h : Decodes g l) where
-  abbrev q : ℕ
-  q = g .q
+module _ (q m τ : ℕ) (y : List ℕ) (lent : Buffers) (space : List ℕ) (l : Joint.Left) (h : Decodes q m τ y lent space l) where
+  abbrev checks : List Check
+  checks = decodeChecks q m τ y (lent .array) (lent .flags) space
 
-  abbrev y : List ℕ
-  y = g .received
+  none-lost : DecodesLost [] q m τ y lent space l
+  none-lost = nothing-lost q m τ y lent space l .1 h
 
-  none-lost : DecodesLost [] g l
-  none-lost = nothing-lost g l .1 h
-
-  count : wrongAmong q [] y ≡ wrongSectors q y
+  count : (λ (v : List ℕ). wrongAmong (q * q) [] (sectorFlags q y v)) ≡ wrongSectors q y
   count = fun-ext (all-sectors q y)
 
-  pub refused-exactly : IsRefused l ↔ ¬ (first (checksOf g) ≡ 0)
-  refused-exactly = subst (λ (n : ℕ). IsRefused l ↔ ¬ (n ≡ 0)) (none-checks g) (lost.refused-exactly [] g l none-lost)
+  pub refused-exactly : IsRefused l ↔ ¬ (first checks ≡ 0)
+  refused-exactly =
+      subst (λ (n : ℕ). IsRefused l ↔ ¬ (n ≡ 0)) (none-checks q m τ y lent space) (lost.refused-exactly [] q m τ y lent space l none-lost)
 
   pub refused-leaves : (k : ℕ) → l .ending ≡ Refused k
-      → (k ≡ first (checksOf g)) × Mem k (10 ∷ 11 ∷ 18 ∷ 5 ∷ 7 ∷ 8 ∷ []) × (l .buffers ≡ g .lent) × (l .space ≡ g .space)
+      → (k ≡ first checks) × Mem k (10 ∷ 11 ∷ 18 ∷ 5 ∷ 7 ∷ 8 ∷ []) × (l .buffers ≡ lent) × (l .space ≡ space)
   refused-leaves k e =
-      let (is, some, buffers, space) = lost.refused-leaves [] g l none-lost k e in
-      let same : k ≡ first (checksOf g) = is ∙ none-checks g in
-      let one : Mem (first (checksOf g)) (10 ∷ 11 ∷ 18 ∷ 5 ∷ 7 ∷ 8 ∷ []) =
-      ⊎-elim (λ z. absurd (omega arith)) (λ i. i) (first-of (checksOf g)) in
-      (same, rw same one, buffers, space)
+      let (is, some, kept, kept-space) = lost.refused-leaves [] q m τ y lent space l none-lost k e in
+      let same : k ≡ first checks = is ∙ none-checks q m τ y lent space in
+      let one : Mem (first checks) (10 ∷ 11 ∷ 18 ∷ 5 ∷ 7 ∷ 8 ∷ []) =
+      ⊎-elim (λ z. absurd (omega arith)) (λ i. i) (first-of checks) in
+      (same, rw same one, kept, kept-space)
 
-  pub as-lent : ¬ IsCorrected l → l .buffers ≡ g .lent
-  as-lent = lost.as-lent [] g l none-lost
+  pub as-lent : ¬ IsCorrected l → l .buffers ≡ lent
+  as-lent = lost.as-lent [] q m τ y lent space l none-lost
 
   pub space-cleared : ¬ IsRefused l
-      → ((i : ℕ) → i < spaceBytes → getD (l .space) i 0 ≡ 0) × ((i : ℕ) → spaceBytes ≤ i → getD (l .space) i 0 ≡ getD (g .space) i 0)
-  space-cleared = lost.space-cleared [] g l none-lost
+      → ((i : ℕ) → i < spaceBytes → getD (l .space) i 0 ≡ 0) × ((i : ℕ) → spaceBytes ≤ i → getD (l .space) i 0 ≡ getD space i 0)
+  space-cleared = lost.space-cleared [] q m τ y lent space l none-lost
 
   pub corrected-nearest : (w : ℕ) → l .ending ≡ Corrected w
-      → Nearest (RingWord q (g .m)) (wrongSectors q y) (g .limit) w (l .buffers .array)
+      → Nearest (RingWord q m) (wrongSectors q y) τ w (l .buffers .array)
       × (l .buffers .flags ≡ sectorFlags q y (l .buffers .array))
   corrected-nearest w e = (
-    subst (λ (n : List ℕ → ℕ). Nearest (RingWord q (g .m)) n (g .limit) w (l .buffers .array)) count
-        (lost.corrected-nearest [] g l none-lost w e),
-    lost.corrected-flags [] g l none-lost w e ∙ all-flags q y (l .buffers .array),
+    subst (λ (n : List ℕ → ℕ). Nearest (RingWord q m) n τ w (l .buffers .array)) count
+        (lost.corrected-nearest [] q m τ y lent space l none-lost w e),
+    lost.corrected-flags [] q m τ y lent space l none-lost w e ∙ all-flags q y (l .buffers .array),
   )
 
-  pub none-far : l .ending ≡ Nothing → Far (RingWord q (g .m)) (wrongSectors q y) (g .limit)
-  none-far e = subst (λ (n : List ℕ → ℕ). Far (RingWord q (g .m)) n (g .limit)) count (lost.none-far [] g l none-lost e)
+  pub none-far : l .ending ≡ Nothing → Far (RingWord q m) (wrongSectors q y) τ
+  none-far e = subst (λ (n : List ℕ → ℕ). Far (RingWord q m) n τ) count (lost.none-far [] q m τ y lent space l none-lost e)
 
-  module _ (safe : g .limit ≤ safeLimit (ringCode q (g .m))) (not : ¬ IsRefused l) where
-    safe-rest : g .limit ≤ safeLimit (core (ringCode q (g .m)) [])
-    safe-rest = subst (λ (c : Code). g .limit ≤ safeLimit c) (sym (core-none (ringCode q (g .m)))) safe
+  module _ (safe : τ ≤ safeLimit (ringCode q m)) (not : ¬ IsRefused l) where
+    safe-rest : τ ≤ safeLimit (core (ringCode q m) [])
+    safe-rest = subst (λ (c : Code). τ ≤ safeLimit c) (sym (core-none (ringCode q m))) safe
 
-    pub safe-exactly : IsCorrected l ↔ Near (RingWord q (g .m)) (wrongSectors q y) (g .limit)
-    safe-exactly = subst (λ (n : List ℕ → ℕ). IsCorrected l ↔ Near (RingWord q (g .m)) n (g .limit)) count
-        (lost.safe-exactly [] g l none-lost safe-rest not)
+    pub safe-exactly : IsCorrected l ↔ Near (RingWord q m) (wrongSectors q y) τ
+    safe-exactly = subst (λ (n : List ℕ → ℕ). IsCorrected l ↔ Near (RingWord q m) n τ) count
+        (lost.safe-exactly [] q m τ y lent space l none-lost safe-rest not)
 
     -- 'At the safe limit or below, any ending but "corrected" and "refused" means that no code array is within τ columns.'
-    pub safe-otherwise : ¬ IsCorrected l → Far (RingWord q (g .m)) (wrongSectors q y) (g .limit)
-    safe-otherwise n = subst (λ (n : List ℕ → ℕ). Far (RingWord q (g .m)) n (g .limit)) count
-        (lost.safe-otherwise [] g l none-lost safe-rest not n)
+    pub safe-otherwise : ¬ IsCorrected l → Far (RingWord q m) (wrongSectors q y) τ
+    safe-otherwise n = subst (λ (n : List ℕ → ℕ). Far (RingWord q m) n τ) count
+        (lost.safe-otherwise [] q m τ y lent space l none-lost safe-rest not n)
 
   pub detail-small : detailOf (Endings.meaning (l .ending)) < 256
-  detail-small = lost.detail-small [] g l none-lost
+  detail-small = lost.detail-small [] q m τ y lent space l none-lost
 
 -- 'P10: H(3), f=y: 0 1 2 3 2 3 2 3.' The rows of its array are 0 0 0 0 and 1 1 1 1.
 module _ (lent : Buffers) (space f s : List ℕ) where
-  abbrev asked : Given
-  asked = given 2 3 0 (0 ∷ 1 ∷ 2 ∷ 3 ∷ 2 ∷ 3 ∷ 2 ∷ 3 ∷ []) lent space
+  abbrev word : List ℕ
+  word = 0 ∷ 1 ∷ 2 ∷ 3 ∷ 2 ∷ 3 ∷ 2 ∷ 3 ∷ []
 
   abbrev array-left : Joint.Left
   array-left = Joint.left (Corrected 0) (Joint.buffers (0 ∷ 0 ∷ 0 ∷ 0 ∷ 1 ∷ 1 ∷ 1 ∷ 1 ∷ []) f) s
 
-  pub array-returned : ¬ Decodes asked array-left
+  pub array-returned : ¬ Decodes 2 3 0 word lent space array-left
   unfolding differs flagsFrom total
-  array-returned h = let z : _≡_ {A = ℕ} 4 0 = corrected-nearest asked array-left h 0 refl .0 .wrong in omega arith
+  array-returned h = let z : _≡_ {A = ℕ} 4 0 = corrected-nearest 2 3 0 word lent space array-left h 0 refl .0 .wrong in omega arith

@@ -8,10 +8,11 @@ use Prim.Native.Nat.{ℕ}
 use Rattle.codes.specs.Code.{IsMessage}
 use Rattle.mark.specs.Promises.{Left}
 use Rattle.mark.proofs.Promised.{writes-unique, finds-unique}
+use Rattle.ending.specs.Endings.{Buffers}
 use Rattle.joint.specs.Promises as Joint
 use Rattle.hermitian.specs.Ring.{ringCode, ringWord}
 use Rattle.hermitian.specs.Checks.{encodeChecks, readChecks}
-use Rattle.ring.specs.Promises.{Encodes, Reads, Given, Decodes}
+use Rattle.ring.specs.Promises.{Encodes, Reads, Decodes}
 use Rattle.hermitian.proofs.Words.{one-message}
 use Rattle.hermitian.proofs.Passed.{reading}
 use Rattle.ring.proofs.Lost.{unique, nothing-lost}
@@ -23,5 +24,7 @@ pub reads-unique : (q m : ℕ) (w lent : List ℕ) (x y : Left) → Reads q m w 
 reads-unique q m w lent = finds-unique (readChecks q m w lent) (IsMessage (ringCode q m)) (ringWord q m) w lent
     (λ none f f′ i i′. let p = reading q m w lent none .ring in one-message q m (p .size) (p .order) i i′)
 
-pub decodes-unique : (g : Given) (l l′ : Joint.Left) → Decodes g l → Decodes g l′ → l ≡ l′
-decodes-unique g l l′ h h′ = unique [] g l l′ (nothing-lost g l .1 h) (nothing-lost g l′ .1 h′)
+pub decodes-unique : (q m τ : ℕ) (y : List ℕ) (lent : Buffers) (space : List ℕ) (l l′ : Joint.Left)
+    → Decodes q m τ y lent space l → Decodes q m τ y lent space l′ → l ≡ l′
+decodes-unique q m τ y lent space l l′ h h′ =
+    unique [] q m τ y lent space l l′ (nothing-lost q m τ y lent space l .1 h) (nothing-lost q m τ y lent space l′ .1 h′)

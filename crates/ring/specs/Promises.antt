@@ -1,17 +1,12 @@
--- What the calls on rings promise.
---
---   Encodes q m f lent left    encoding f with the buffer lent leaves left
---   Reads q m w lent left      reading w with the buffer lent leaves left
---   Given, given               what a decoding is given: q, m, the trial limit, the received ring, the buffers and space lent
---   carriedBack q e b          the answer of the array's decoding, carried back to the ring
+-- What the calls on rings promise. A decoding is given q, m, the trial limit, the received ring, the buffers and the space lent.
+
+--   Encodes q m f lent left    encoding f with the buffer lent leaves left; Reads q m w lent left, reading w
 --   Carried q y E e left       the array of y ends as e by the table E, and its answer is carried back to left
 --   RingEnds q m τ y lent e left    the decoding of y, not refused, ends as e and turns the buffers lent into left
---   checksOf g                 the checks of the decoding of g
---   Decodes g l                the decoding of g leaves l
+--   Decodes q m τ y lent space l    the decoding of y leaves l
 use mathlib.Core.Path.{_≡_}
 use mathlib.Core.List.{List}
 use Prim.Native.Nat.{ℕ}
-use Rattle.refusal.specs.Refusal.{Check}
 use Rattle.codes.specs.Code.{IsMessage}
 use Rattle.mark.specs.Promises.{Left, Writes, Finds}
 use Rattle.ending.specs.Endings.{Buffers, Ends}
@@ -26,34 +21,18 @@ Encodes q m f lent = Writes (encodeChecks q m f lent) (ringWord q m f) lent
 abbrev pub Reads : (q m : ℕ) (w lent : List ℕ) → Left → Type 0
 Reads q m w lent = Finds (readChecks q m w lent) (IsMessage (ringCode q m)) (ringWord q m) w lent
 
-pub record Given : Type 0 where
-  pub q : ℕ
-  pub m : ℕ
-  pub limit : ℕ
-  pub received : List ℕ
-  pub lent : Buffers
-  pub space : List ℕ
-
-abbrev pub given : (q m limit : ℕ) (received : List ℕ) (lent : Buffers) (space : List ℕ) → Given
-given q m τ y b s = record { q = q; m = m; limit = τ; received = y; lent = b; space = s }
-
--- 'with the answer carried back': its ring; the flags of the columns are those of the sectors
-abbrev pub carriedBack : ℕ → Ending → Buffers → Buffers
-carriedBack q = Joint.onCorrected (ringOf q)
-
--- 'Decoding a ring is decoding that array, with the answer carried back': E is the table of the array's endings
+-- 'Decoding a ring is decoding that array, with the answer carried back': E is the table of the array's endings; what is carried back is
+-- the ring of the answer, and the flags of the columns are those of the sectors
 pub record Carried (q : ℕ) (y : List ℕ) (E : List ℕ → Ending → Buffers → Type 0) (e : Ending) (left : Buffers) : Type 0 where
   pub array : List ℕ
   pub is-array : ArrayOf q y array
   pub answer : Buffers
   pub ends : E array e answer
-  pub back : left ≡ carriedBack q e answer
+  pub back : left ≡ Joint.onCorrected (ringOf q) e answer
 
 abbrev pub RingEnds : (q m τ : ℕ) (y : List ℕ) (lent : Buffers) → Ending → Buffers → Type 0
 RingEnds q m τ y lent = Carried q y (λ a. Ends (ringCode q m) a τ lent)
 
-abbrev pub checksOf : Given → List Check
-checksOf g = decodeChecks (g .q) (g .m) (g .limit) (g .received) (g .lent .array) (g .lent .flags) (g .space)
-
-abbrev pub Decodes : Given → Joint.Left → Type 0
-Decodes g = Joint.Decoding (checksOf g) (g .lent) (g .space) (RingEnds (g .q) (g .m) (g .limit) (g .received) (g .lent))
+abbrev pub Decodes : (q m τ : ℕ) (y : List ℕ) (lent : Buffers) (space : List ℕ) → Joint.Left → Type 0
+Decodes q m τ y lent space =
+    Joint.Decoding (decodeChecks q m τ y (lent .array) (lent .flags) space) lent space (RingEnds q m τ y lent)

@@ -8,7 +8,7 @@ ghost use Rattle.joint.specs.Promises as Joint;
 ghost use Rattle.finish.specs.Working.{released};
 ghost use Rattle.hermitian.specs.Ring.{ringOf, ringWord};
 ghost use Rattle.hermitian.specs.Checks.{encodeChecks, lostChecks, readChecks};
-ghost use Rattle.ring.specs.Promises.{Decodes, Encodes, Reads, given};
+ghost use Rattle.ring.specs.Promises.{Decodes, Encodes, Reads};
 ghost use Rattle.ring.specs.Lost.{DecodesLost, LostRingEnds};
 ghost use Rattle.ring.specs.Working.{AnswerGiven};
 
@@ -153,7 +153,7 @@ pub fn decode_lost(
     space: &mut [u8],
 ) -> Ending
     ensures { λ r. ⌜ DecodesLost (now (lost .entry))
-        (given q m limit (now (received .entry)) (Joint.buffers (now (answer .entry)) (now (flags .entry))) (now (space .entry)))
+        q m limit (now (received .entry)) (Joint.buffers (now (answer .entry)) (now (flags .entry))) (now (space .entry))
         (Joint.left r (Joint.buffers (now (answer .exit)) (now (flags .exit))) (now (space .exit))) ⌝ }
 {
     let k = checks::lost_refusal(
@@ -184,7 +184,7 @@ pub fn decode(
     space: &mut [u8],
 ) -> Ending
     ensures { λ r. ⌜ Decodes
-        (given q m limit (now (received .entry)) (Joint.buffers (now (answer .entry)) (now (flags .entry))) (now (space .entry)))
+        q m limit (now (received .entry)) (Joint.buffers (now (answer .entry)) (now (flags .entry))) (now (space .entry))
         (Joint.left r (Joint.buffers (now (answer .exit)) (now (flags .exit))) (now (space .exit))) ⌝ }
 {
     decode_lost(q, m, limit, &received[..0], received, answer, flags, space)

@@ -1,13 +1,12 @@
 -- What the decoding of a tray promises: 02, 2026-01. An answer is an A, and `say` says an ending so: as a record, or as one number.
---
+
 --   answerOf e            the answer of an ending
 --   GivenTray, LeftTray   what a call is given, and what it leaves; givenTray, leftTray, these of their parts
 --   cells c               the number of symbols of one array
 --   receivedOf c k y, markOf c k b    of the received arrays and of the buffers of all marks, those of mark k
 --   alone g k             what a call for mark k alone would be given
 --   Alone say g s b k     mark k's answer, array and flags are those that this call would leave; Fills say g s b, so of every mark
---   trayChecks, checksTray g    the checks; wrongLengths, the test of number 5
---   DecodesTray say g l   the decoding of the tray g leaves l
+--   DecodesTray say g l   the decoding of the tray g leaves l; trayChecks, checksTray g, its checks; wrongLengths, the test of number 5
 use mathlib.Core.Path.{_≡_}
 use mathlib.Core.Bool.{Bool, _||_}
 use mathlib.Core.List.{List, [], _∷_, _++_}
@@ -15,12 +14,12 @@ use Prim.Native.Nat.{ℕ, _*_, _<_}
 use lib.Dec.{ltb}
 use lib.ListN.{length, getD}
 use Rattle.patch.specs.Parts.{part}
-use Rattle.refusal.specs.Refusal.{Check, _when_, outside, badPoints}
+use Rattle.refusal.specs.Refusal.{Check, _when_, outside}
 use Rattle.refusal.specs.Keeping.{Keeps}
 use Rattle.refusal.specs.Meaning.{numberOf, detailOf}
 use Rattle.codes.specs.Code.{Code, columns, rows, jointLimit}
 use Rattle.codes.specs.Factors.{Description}
-use Rattle.codes.specs.Checks.{codeChecks, wrongLength, spaceBytes, badFactors}
+use Rattle.codes.specs.Checks.{codeChecks, columnChecks, wrongLength, spaceBytes}
 use Rattle.mark.specs.declared.Outcome.{Outcome}
 use Rattle.mark.specs.declared.Outcome.the-variants as outcomes
 use Rattle.ending.specs.Endings.{Buffers, meaning}
@@ -89,14 +88,8 @@ wrongLengths D m y a f w = let c = D .code in wrongLength (m * cells c) y || wro
 -- 'Checks 1 to 4, 6 and 8 and the lengths in 5 are common to the tray, come before any mark's 7'; '15, the tray has no mark or more
 -- than 64, after 4 and before 5'. 18 (2026-05) and 23 (2026-11) 'refuse a tray whole'
 abbrev pub trayChecks : (D : Description) (limit marks : ℕ) (received arrays flags space : List ℕ) → List Check
-trayChecks D τ m y a f w =
-    codeChecks (D .code)
-    ++ (15 when outside 1 64 m)
-    ∷ (5 when wrongLengths D m y a f w)
-    ∷ (6 when badPoints (D .code .degree) (D .code .points))
-    ∷ (23 when badFactors (D .code .degree) (D .factors))
-    ∷ (8 when ltb (jointLimit (D .code)) τ)
-    ∷ []
+trayChecks D τ m y a f w = codeChecks (D .code) ++ (15 when outside 1 64 m) ∷ (5 when wrongLengths D m y a f w)
+    ∷ columnChecks D ++ (8 when ltb (jointLimit (D .code)) τ) ∷ []
 
 abbrev pub checksTray : {A : Type 0} → GivenTray A → List Check
 checksTray g =

@@ -140,7 +140,7 @@ returns c =
     let r = c .before .before .before .before .before .before .before .before .before .before .before in
     let b = begun r in (
       power-ends (b .args .degree) (b .args .k) (b .args .powers) (b .args .points .now) (b .args .factors .now) (b .args .limit) (y b)
-          (b .args .answer .now) (b .args .flags .now) (b .args .space .now) (is-quotient (divided-at r)) (blank (divided-at r)) (own r)
+          (b .args .answer .now) (b .args .flags .now) (is-quotient (divided-at r)) (blank (divided-at r)) (own r)
           (flags r) (g .give .last .1 .1 .1 .1 .0) (r .decode-rows .result) (ends r) (rw (first r) at (g .give .ensures (flags r))),
       r .decode-rows .ensures .1,
     )

@@ -1,7 +1,6 @@
 -- `ring::decode` is the decoding with nothing lost.
 -- Assumes nothing.
 use Rattle.joint.specs.Promises.{buffers, left}
-use Rattle.ring.specs.Promises.{given}
 use Rattle.ring.proofs.Lost.{nothing-lost}
 use borrow.Author.Needs.{needs}
 use Rattle.ring.proofs.decode.Statement.{statement}
@@ -14,7 +13,7 @@ returns : tie.Need-returns
 returns c =
     let d = c .before .before .before .before .before .before in
     let a = start d .args in
-    nothing-lost (given (a .q) (a .m) (a .limit) (a .received .now) (buffers (a .answer .now) (a .flags .now)) (a .space .now))
+    nothing-lost (a .q) (a .m) (a .limit) (a .received .now) (buffers (a .answer .now) (a .flags .now)) (a .space .now)
     (left (d .decode-lost .result) (buffers (d .decode-lost .last .1 .1 .1 .1 .1 .0) (d .decode-lost .last .1 .1 .1 .1 .1 .1 .0))
     (d .decode-lost .last .1 .1 .1 .1 .1 .1 .1 .0))
     .0 (d .decode-lost .ensures)
