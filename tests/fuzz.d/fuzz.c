@@ -16,7 +16,7 @@
 #include <time.h>
 #include <unistd.h>
 
-enum { LENGTHS, POINTS, FACTORS, LOST, INPUT, RESULT, FLAGS, SPACE, BUFFERS };
+enum { LENGTHS, POINTS, FACTORS, LOST, INPUT, RESULT, FLAGS, ANSWERS, SPACE, BUFFERS };
 
 static struct buffer {
     uint8_t *room, *at, *copy;
@@ -87,7 +87,7 @@ static size_t any_length(size_t right, size_t most)
 /* The ways of decoding, and how often each ended how. */
 enum { NO_LIST, WITH_LIST, BY_POWERS, WAYS };
 static const char *const ways[WAYS] = {"with no list", "with lost columns", "by powers"};
-static unsigned long ends[WAYS][5], refused, refused_for_a_factor, done;
+static unsigned long ends[WAYS][5], refused, refused_for_a_factor, done, trays, trays_refused, marks_ended[5];
 static int on_mark; /* the call is on a mark: rings have no factors */
 
 static int only_read(void)
@@ -169,26 +169,43 @@ static void lay_factors(size_t columns, unsigned symbols)
     memcpy(factors->copy, factors->room, factors->size);
 }
 
-static int mark(int call)
+/* The description of a code: most of the time one that passes its checks. */
+struct code {
+    uint32_t degree;
+    unsigned symbols;
+    size_t rows, columns, total;
+};
+
+static struct code lay_code(void)
 {
     static const uint32_t degrees[] = {2, 4, 8};
-    uint32_t degree = degrees[below(3)];
-    unsigned symbols = 1u << degree;
-    size_t most = symbols < 96 ? symbols : 96, columns = 1 + below((unsigned)most), rows = 1 + below(4), total = 0;
-    lay(LENGTHS, any_length(rows, 300), 1 + (unsigned)columns);
-    lay(POINTS, any_length(columns, 300), symbols);
-    struct buffer *ks = &buffers[LENGTHS], *xs = &buffers[POINTS], *fs = &buffers[FACTORS], *y = &buffers[INPUT];
-    struct buffer *a = &buffers[RESULT];
+    struct code c = {degrees[below(3)], 0, 1 + below(4), 0, 0};
+    c.symbols = 1u << c.degree;
+    c.columns = 1 + below(c.symbols < 96 ? c.symbols : 96);
+    lay(LENGTHS, any_length(c.rows, 300), 1 + (unsigned)c.columns);
+    lay(POINTS, any_length(c.columns, 300), c.symbols);
+    struct buffer *ks = &buffers[LENGTHS], *xs = &buffers[POINTS];
     for (size_t i = 0; i < xs->length && !chance(20); i++)
         xs->at[i] = (uint8_t)i;
     memcpy(xs->copy, xs->room, xs->size);
-    lay_factors(columns, symbols);
+    lay_factors(c.columns, c.symbols);
     for (size_t l = 0; l < ks->length; l++) {
         if (!ks->at[l] && !chance(20))
             ks->at[l] = 1;
-        total += ks->at[l];
+        c.total += ks->at[l];
     }
     memcpy(ks->copy, ks->room, ks->size);
+    return c;
+}
+
+static int mark(int call)
+{
+    struct code c = lay_code();
+    size_t columns = c.columns, rows = c.rows, total = c.total;
+    uint32_t degree = c.degree;
+    unsigned symbols = c.symbols;
+    struct buffer *ks = &buffers[LENGTHS], *xs = &buffers[POINTS], *fs = &buffers[FACTORS], *y = &buffers[INPUT];
+    struct buffer *a = &buffers[RESULT];
     size_t cells = rows * columns;
     uint32_t asked = any_number(degree);
     lay_lost(call == 3, columns);
@@ -215,6 +232,57 @@ static int mark(int call)
     return decoded(WITH_LIST, gren_mark_decode_lost(asked, ks->at, ks->length, xs->at, xs->length, fs->at, fs->length, limit / 2,
                                             buffers[LOST].at, buffers[LOST].length, y->at, y->length, a->at, a->length,
                                             buffers[FLAGS].at, buffers[FLAGS].length, buffers[SPACE].at, buffers[SPACE].length));
+}
+
+/* A mark of a tray that was not refused: corrected, or its array and flags as they were; refused for a symbol alone. */
+static int marked(size_t mark, size_t cells, size_t columns)
+{
+    const struct buffer *a = &buffers[RESULT], *f = &buffers[FLAGS];
+    size_t array = (size_t)(a->at - a->room) + mark * cells, flags = (size_t)(f->at - f->room) + mark * columns;
+    uint32_t r, ones = 0;
+    memcpy(&r, buffers[ANSWERS].at + 4 * mark, 4);
+    uint32_t code = gren_code(r);
+    if (code > GREN_HOLLOW || (code == GREN_REFUSED && gren_detail(r) != GREN_BAD_SYMBOL))
+        return 0;
+    marks_ended[code]++;
+    if (code != GREN_CORRECTED)
+        return !memcmp(a->copy + array, a->room + array, cells) && !memcmp(f->copy + flags, f->room + flags, columns);
+    for (size_t i = 0; i < columns; i++) {
+        if (f->room[flags + i] > 1)
+            return 0;
+        ones += f->room[flags + i];
+    }
+    return ones == gren_detail(r);
+}
+
+/* A tray, with as many marks as the buffers' rooms hold. */
+static int tray(void)
+{
+    struct code c = lay_code();
+    size_t cells = c.rows * c.columns, most = 4000 / cells, marks = 1 + below(most < GREN_MOST_MARKS ? (unsigned)most : GREN_MOST_MARKS);
+    size_t asked = any_length(marks, 70);
+    struct buffer *ks = &buffers[LENGTHS], *xs = &buffers[POINTS], *fs = &buffers[FACTORS], *y = &buffers[INPUT];
+    struct buffer *a = &buffers[RESULT], *f = &buffers[FLAGS], *s = &buffers[SPACE];
+    lay_lost(0, c.columns);
+    lay(INPUT, any_length(marks * cells, 4000), chance(3) ? 1 : chance(3) ? 2 : c.symbols);
+    lay(RESULT, any_length(marks * cells, 4000), 256);
+    lay(FLAGS, any_length(marks * c.columns, 4000), 256);
+    lay(ANSWERS, 4 * asked, 256);
+    lay(SPACE, chance(12) ? below(16 * 4096) : GREN_SPACE + below(100), 256);
+    uint32_t r = gren_tray_decode(any_number(c.degree), ks->at, ks->length, xs->at, xs->length, fs->at, fs->length,
+                                  any_number(below((unsigned)c.columns / 2 + 1)), y->at, y->length,
+                                  (uint32_t *)(void *)buffers[ANSWERS].at, asked, a->at, a->length, f->at, f->length, s->at, s->length);
+    trays++;
+    refused_for_a_factor += r == GREN_BAD_FACTOR;
+    int ok = inside(RESULT) && inside(FLAGS) && inside(ANSWERS) && only_read();
+    if (r != GREN_DONE) {
+        trays_refused++;
+        return ok && ((r >= 1 && r <= 6) || r == 8 || r == GREN_BAD_MARKS || r == 18 || r == GREN_BAD_FACTOR) && as_lent(RESULT)
+               && as_lent(FLAGS) && as_lent(ANSWERS) && as_lent(SPACE);
+    }
+    for (size_t k = 0; k < asked; k++)
+        ok &= marked(k, cells, c.columns);
+    return ok && space_cleared();
 }
 
 /* One row by its powers. */
@@ -280,9 +348,9 @@ static int calls(double seconds, unsigned long seed)
     clock_gettime(CLOCK_MONOTONIC, &began);
     do {
         for (int i = 0; i < 100; i++, n++) {
-            int call = (int)below(4), by_powers = chance(6);
-            on_mark = by_powers || !chance(3);
-            if (!(by_powers ? row() : on_mark ? mark(call) : ring(call))) {
+            int call = (int)below(4), by_powers = chance(6), in_trays = !by_powers && chance(12);
+            on_mark = by_powers || in_trays || !chance(3);
+            if (!(by_powers ? row() : in_trays ? tray() : on_mark ? mark(call) : ring(call))) {
                 printf("fuzz: seed %lu, call %lu: a number or a buffer is not as promised\n", seed, n);
                 return 1;
             }
@@ -296,6 +364,9 @@ static int calls(double seconds, unsigned long seed)
         printf("fuzz: decodings %s: %lu corrected, %lu none, %lu several, %lu hollow, %lu refused\n", ways[way], e[1], e[2], e[3], e[4],
                e[0]);
     }
+    unsigned long *e = marks_ended;
+    printf("fuzz: %lu trays, %lu of them refused; marks: %lu corrected, %lu none, %lu several, %lu hollow, %lu refused\n", trays,
+           trays_refused, e[1], e[2], e[3], e[4], e[0]);
     return 0;
 }
 

@@ -5,7 +5,9 @@
 --   Counts c              what the checks 1 to 4 leave; counted, from them and whatever checks follow; counts-of, from them alone
 --   PassedEncoding, PassedReading, PassedDecoding    what the checks of a call leave; encoding, reading, decoding, from them
 --   PassedArray           what 1 to 7 of decoding leave; arrays, from them; counts-of-array, of those what 1 to 4 leave
---   code-passes, arrays-pass, decoding-passes    and the reverse: where that holds and no k equals n, no check applies
+--   checked               and of 18, that no k equals n
+--   code-passes, up-to-seven, arrays-pass, decoding-passes    and the reverse: where that holds, no check applies; up to 7, whatever
+--                         the symbols
 -- Assumes nothing.
 use mathlib.Core.Path.{_≡_, refl, sym, ap, ap₂, _∙_}
 use mathlib.Core.Bool.{Bool, true, false, not}
@@ -75,6 +77,9 @@ counted c ds e =
       },
       p₁₈ .1,
     )
+
+pub checked : (c : Code) (ds : List Check) → 0 ≡ first (codeChecks c ++ ds) → unchecked c ≡ false
+checked c ds e = clear 17 _ _ (clear 3 _ _ (clear 2 _ _ (clear 1 _ _ (clear 0 _ _ e .1) .1) .1) .1) .0
 
 pub counts-of : (c : Code) {k : ℕ} → k ≡ first (codeChecks c) → k ≡ 0 → Counts c
 counts-of c e z = counted c [] (sym z ∙ e) .0
@@ -220,23 +225,30 @@ code-passes c ds h u =
     ∙ miss 4 _ _ (lengths-test 1 (columns c) (c .lengths) .1 (h .lengths))
     ∙ miss 18 _ _ u
 
-module _ (D : Description) (h : Factors D) {y a f w : List ℕ} (p : PassedArray (D .code) y a f w) (u : unchecked (D .code) ≡ false) where
-  pub arrays-pass : (ds : List Check) → first (arrayChecks D y a f w ++ ds) ≡ first ds
-  arrays-pass ds =
-      code-passes (D .code) _ (p .counts) u
+module _ (D : Description) (n : Counts (D .code)) (o : Proper (D .code)) (h : Factors D) (u : unchecked (D .code) ≡ false) where
+  -- with buffers of the right lengths
+  pub up-to-seven : (y a f w : List ℕ) → length y ≡ rows (D .code) * columns (D .code) → length a ≡ rows (D .code) * columns (D .code)
+      → length f ≡ columns (D .code) → spaceBytes ≤ length w → (ds : List Check)
+      → first (arrayChecks D y a f w ++ ds) ≡ first ((7 when someOutsideField (D .code .degree) y) ∷ ds)
+  up-to-seven y a f w received answer flags space ds =
+      code-passes (D .code) _ n u
       ∙ miss 5 _ _ (neither _ (wrongLength (columns (D .code)) (D .factors)) .1 (
         neither _ (ltb (length w) spaceBytes) .1 (
           neither _ (wrongLength (columns (D .code)) f) .1 (
-            neither (wrongLength (rows (D .code) * columns (D .code)) y) _ .1
-                (is-right _ y (p .received .count), is-right _ a (p .answer)),
-            is-right _ f (p .flags),
+            neither (wrongLength (rows (D .code) * columns (D .code)) y) _ .1 (is-right _ y received, is-right _ a answer),
+            is-right _ f flags,
           ),
-          le-ltb (length w) spaceBytes (p .space),
+          le-ltb (length w) spaceBytes space,
         ),
         is-right _ (D .factors) (h .count),
       ))
-      ∙ miss 6 _ _ (points-test (D .code .degree) (D .code .points) .1 (p .proper .symbols, p .proper .distinct))
+      ∙ miss 6 _ _ (points-test (D .code .degree) (D .code .points) .1 (o .symbols, o .distinct))
       ∙ miss 23 _ _ (factors-test (D .code .degree) (D .factors) .1 (h .symbols))
+
+module _ (D : Description) (h : Factors D) {y a f w : List ℕ} (p : PassedArray (D .code) y a f w) (u : unchecked (D .code) ≡ false) where
+  pub arrays-pass : (ds : List Check) → first (arrayChecks D y a f w ++ ds) ≡ first ds
+  arrays-pass ds =
+      up-to-seven D (p .counts) (p .proper) h u y a f w (p .received .count) (p .answer) (p .flags) (p .space) ds
       ∙ miss 7 _ _ (symbols-test (D .code .degree) y .1 (p .received .symbols))
 
   pub decoding-passes : {τ : ℕ} → τ ≤ jointLimit (D .code) → first (decodeChecks D τ y a f w) ≡ 0

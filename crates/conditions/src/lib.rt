@@ -14,9 +14,10 @@ ghost use Rattle.poly.specs.Poly.{All};
 ghost use Rattle.poly.proofs.Forms.{reduce};
 ghost use Rattle.rows.specs.Working.Rows.{Points, Inverses};
 ghost use Rattle.codes.specs.Code.{codeOf, largest};
-ghost use Rattle.codes.proofs.Proper.{Within};
+ghost use Rattle.codes.proofs.Passed.{Counts};
+ghost use Rattle.codes.proofs.Proper.{Within, Proper};
 ghost use Rattle.ending.specs.Working.{Ready, mostCells};
-ghost use Rattle.conditions.specs.Working.{reducedPoints, reducedValues};
+ghost use Rattle.conditions.specs.Working.{MayHave, mostInverses, reducedPoints, reducedValues};
 use array_checks::wide;
 use field::tables::Table;
 
@@ -56,6 +57,16 @@ fn row_conditions(
     rows::lent::reduce(table, degree, points, k, ws, &mut held);
     rows::store(&held[k..points.len()], us, at);
     rows::store(&points[k..], xs, at);
+}
+
+// For the crates above: the inverses of the longest row's rounds, at the front of ws.
+pub fn inverses(table: &Table, degree: u32, lengths: &[u8], points: &[u8], ws: &mut [u8])
+    requires { ⌜ Counts (codeOf degree (now points) (now lengths)) × Proper (codeOf degree (now points) (now lengths)) × IsTable degree (now table) ⌝ }
+    requires { ⌜ (length (now ws) ≡ mostInverses) × All (IsSymbol degree) (now ws) ⌝ }
+    ensures { λ _. ⌜ Inverses degree (now (points .entry)) (largest (now (lengths .entry))) (now (ws .exit)) ⌝ }
+{
+    let k = array_checks::largest(lengths);
+    rows::lent::all_inverses(table, degree, points, k, ws);
 }
 
 // The conditions of all rows at the front of us and xs, ws being the inverses of the longest row's rounds; answers how many
@@ -100,8 +111,8 @@ fn rows_conditions(
     at
 }
 
-// For the crates above: the conditions of all rows at the front of us and xs; answers how many there are.
-pub fn conditions(
+// The same with inverses of our own. The two ways have a function each, so that the compiler sees in each where its inverses lie.
+fn own_conditions(
     table: &Table,
     degree: u32,
     lengths: &[u8],
@@ -118,7 +129,31 @@ pub fn conditions(
         × (now (xs .exit) ≡ lay 0 (reducedPoints (now (points .entry)) (now (lengths .entry))) (now (xs .entry))) ⌝ }
 {
     let mut ws = [0u8; 9216];
-    let k = array_checks::largest(lengths);
-    rows::lent::all_inverses(table, degree, points, k, &mut ws);
+    inverses(table, degree, lengths, points, &mut ws);
     rows_conditions(table, degree, lengths, points, &ws, received, us, xs)
+}
+
+// For the crates above: the conditions of all rows at the front of us and xs; answers how many there are. Where ws is not empty, it
+// has the inverses of the longest row's rounds; else they are worked out here.
+pub fn conditions(
+    table: &Table,
+    degree: u32,
+    lengths: &[u8],
+    points: &[u8],
+    ws: &[u8],
+    received: &[u8],
+    us: &mut [u8],
+    xs: &mut [u8],
+) -> usize
+    requires { ⌜ Ready (codeOf degree (now points) (now lengths)) (now received) ⌝ }
+    requires { ⌜ IsTable degree (now table) × MayHave degree (now points) (now lengths) (now ws) ⌝ }
+    requires { ⌜ (length (now us) ≡ mostCells) × (length (now xs) ≡ mostCells) ⌝ }
+    ensures { λ r. ⌜ (r ≡ length (reducedPoints (now (points .entry)) (now (lengths .entry))))
+        × (now (us .exit) ≡ lay 0 (reducedValues degree (now (points .entry)) (now (lengths .entry)) (now (received .entry))) (now (us .entry)))
+        × (now (xs .exit) ≡ lay 0 (reducedPoints (now (points .entry)) (now (lengths .entry))) (now (xs .entry))) ⌝ }
+{
+    if 0 < ws.len() {
+        return rows_conditions(table, degree, lengths, points, ws, received, us, xs);
+    }
+    own_conditions(table, degree, lengths, points, received, us, xs)
 }

@@ -1,5 +1,5 @@
 pub mod Decisions
-pub mod Blank
+pub mod Cleared
 pub mod Struck
 pub mod Lost
 pub mod Halves

@@ -1,6 +1,6 @@
 -- Decoding with lost columns: its ends, from those of the remaining columns.
 --
---   rest-passed      what is left passes the checks of decoding
+--   rest-ready       what is left of an array is ready to be decoded
 --   found-ends       whatever it ends as, the remaining columns' decoding ends so
 --   ends-unique      no two distinct ends
 --   twos-merged      the flags, merged from those of the remaining columns; wrong-rest, how many of these are wrong
@@ -22,9 +22,7 @@ use lib.Seq.{ext-getD}
 use Rattle.refusal.specs.Refusal.{isIn}
 use Rattle.codes.specs.Code.{Code, rows, columns, total, IsArray, encoded, flag, flagsFrom, flagsOf, wrongCount, differsAt}
 use Rattle.codes.specs.Lost.{lostFlags, right, core, coreOf, wrongAmong, twosAt, flagsLost}
-use Rattle.codes.specs.Checks.{spaceBytes}
 use Rattle.codes.proofs.Parts.{all-map}
-use Rattle.codes.proofs.Passed.{PassedDecoding}
 use Rattle.codes.proofs.Proper.{Proper}
 use Rattle.codes.proofs.Limits.{Room, joint-room}
 use Rattle.codes.proofs.Flags.{flags-length, flag-here, flag-right}
@@ -32,6 +30,7 @@ use Rattle.codes.proofs.Columns.{agree-exactly, Agree}
 use Rattle.codes.proofs.Messages.{encoded-array, one-message}
 use Rattle.codes.proofs.Right.{rank, rank-below, core-differs}
 use Rattle.codes.proofs.Lost.{lost-length, core-few, core-proper, core-counts, core-array, encoded-core, full-message, core-none, core-of-none, Remains}
+use Rattle.ending.specs.Working.{Ready}
 use Rattle.ending.specs.Endings.{Buffers, Corrects, Ends}
 use Rattle.ending.specs.declared.Ending.{Ending}
 use Rattle.ending.specs.declared.Ending.the-variants.{Refused, Corrected, Nothing, Several, Hollow}
@@ -47,20 +46,12 @@ use Rattle.joint.specs.Promises.{buffers}
 use Rattle.joint.specs.Lost.{LostCorrects, LostEnds}
 use Rattle.joint.specs.Working.{ReadyLost}
 
--- what is left passes the checks of decoding, with buffers of its own
-pub rest-passed : {c : Code} {τ : ℕ} {L y : List ℕ} → ReadyLost c τ L y → (a f w : List ℕ)
-    → length a ≡ rows c * columns (core c L) → length f ≡ columns (core c L) → spaceBytes ≤ length w
-    → PassedDecoding (core c L) τ (coreOf c L y) a f w
-rest-passed {c} {τ} {L} r a f w answer flags space = record {
-  array = record {
-    counts = core-counts c L (r .proper) (r .remain .enough) (r .counts);
-    proper = core-proper c L (r .proper) (r .remain .enough);
-    received = core-array c L (r .received);
-    answer = answer;
-    flags = flags;
-    space = space;
-  };
-  limit = r .remain .limit;
+-- what is left of an array is ready to be decoded
+pub rest-ready : {c : Code} {τ : ℕ} {L y : List ℕ} → ReadyLost c τ L y → Ready (core c L) (coreOf c L y)
+rest-ready {c} {τ} {L} r = record {
+  counts = core-counts c L (r .proper) (r .remain .enough) (r .counts);
+  proper = core-proper c L (r .proper) (r .remain .enough);
+  received = core-array c L (r .received);
 }
 
 -- the flags with twos, at a column

@@ -1,13 +1,11 @@
 -- What the functions inside a decoding ask and leave. No promise cites these.
 --
---   Blank w                  all of w is zero
 --   ReadyLost c τ L y        a code, lost columns, a trial limit and a received array whose checks passed
 --   RestEnds c L y τ e fs    the decoding of the remaining columns ends as e, and leaves the flags fs
 --   StruckEnds D L y τ lent e left    the decoding of what was struck, with the columns L lost, ends as e and turns lent into left
 use mathlib.Core.Path.{_≡_}
 use mathlib.Core.List.{List}
 use Prim.Native.Nat.{ℕ}
-use lib.ListN.{length, replicate}
 use Rattle.codes.specs.Code.{Code, IsArray}
 use Rattle.codes.specs.Factors.{Description}
 use Rattle.codes.specs.Lost.{core, coreOf}
@@ -18,9 +16,6 @@ use Rattle.ending.specs.Endings.{Buffers, Ends}
 use Rattle.ending.specs.declared.Ending.{Ending}
 use Rattle.joint.specs.Promises.{Struck}
 use Rattle.joint.specs.Lost.{LostEnds}
-
-unfoldable pub Blank : List ℕ → Type 0
-Blank w = w ≡ replicate (length w) 0
 
 pub record ReadyLost (c : Code) (τ : ℕ) (L y : List ℕ) : Type 0 where
   pub counts : Counts c

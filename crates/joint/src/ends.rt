@@ -11,7 +11,7 @@ ghost use Rattle.solver.specs.Working.Held.{HoldsLines, LeadsOf};
 ghost use Rattle.ending.specs.Working.{Ready, mostCells};
 ghost use Rattle.ending.specs.Endings.{Buffers, Ends};
 ghost use Rattle.ending.proofs.Model.{Beyond, decided, linesOf};
-ghost use Rattle.conditions.specs.Working.{reducedPoints, reducedValues};
+ghost use Rattle.conditions.specs.Working.{MayHave, reducedPoints, reducedValues};
 ghost use Rattle.finish.specs.Working.{fronts, released};
 use ending::Ending;
 use field::tables::Table;
@@ -121,12 +121,14 @@ fn locate(
     )
 }
 
-// How the decoding of a received array ends. A code array is its own answer.
+// How the decoding of a received array ends, ws being empty or the inverses of its longest row's rounds. A code array is its own
+// answer.
 pub(crate) fn end(
     table: &Table,
     degree: u32,
     lengths: &[u8],
     points: &[u8],
+    ws: &[u8],
     limit: u32,
     received: &[u8],
     array: &mut [u8],
@@ -136,12 +138,22 @@ pub(crate) fn end(
     requires { ⌜ Ready (codeOf degree (now points) (now lengths)) (now received) ⌝ }
     requires { ⌜ (limit ≤ jointLimit (codeOf degree (now points) (now lengths))) × IsTable degree (now table) ⌝ }
     requires { ⌜ (3840 ≤ length (now space)) × (length (now array) ≡ mostCells) × (length (now flags) ≡ 96) ⌝ }
+    requires { ⌜ MayHave degree (now points) (now lengths) (now ws) ⌝ }
     ensures { λ r. ⌜ ((lent : Buffers) → Ends (codeOf degree (now (points .entry)) (now (lengths .entry))) (now (received .entry)) limit lent
         r (released r (fronts (codeOf degree (now (points .entry)) (now (lengths .entry))) (now (array .exit)) (now (flags .exit))) lent)) ⌝ }
 {
     let mut us = [0u8; 384];
     let mut xs = [0u8; 384];
-    let n = conditions::conditions(table, degree, lengths, points, received, &mut us, &mut xs);
+    let n = conditions::conditions(
+        table,
+        degree,
+        lengths,
+        points,
+        ws,
+        received,
+        &mut us,
+        &mut xs,
+    );
     if rows::all_zero(&us[..n]) {
         rows::store(received, array, 0);
         rows::clear(flags, 0, points.len());

@@ -18,24 +18,20 @@
 -- Assumes nothing.
 use mathlib.Core.Path.{_≡_, refl, sym, ap, _∙_, subst}
 use mathlib.Core.Logic.{_↔_}
-use mathlib.Core.Bool.{Bool, true, false, _||_}
+use mathlib.Core.Bool.{Bool, true, false}
 use mathlib.Core.List.{List, [], _∷_}
 use Prim.Native.Nat.{ℕ, suc, _*_, _≤_, _<_}
 use native.Mathlib.Omega.{arith}
-use lib.Dec.{ltb}
 use lib.ListN.{length, getD}
-use borrow.Author.Tests.{le-ltb}
 use Rattle.patch.proofs.Parts.{length-part}
 use Rattle.refusal.specs.Refusal.{Check, _when_, first, someOutsideField}
 use Rattle.refusal.specs.Meaning.{detailOf}
 use Rattle.refusal.proofs.Keeping.{told}
-use Rattle.refusal.proofs.Ladders.{clear, hit, miss, passed-on, front-passed, same-behind, first-upto}
+use Rattle.refusal.proofs.Ladders.{hit, first-upto}
 use Rattle.codes.specs.Code.{Code, columns, wrongCount, flagsOf, safeLimit}
 use Rattle.codes.specs.Factors.{Description, CodeArrayBy}
 use Rattle.codes.specs.Near.{Nearest, Near, Far}
-use Rattle.codes.specs.Checks.{codeChecks, wrongLength, spaceBytes}
-use Rattle.codes.proofs.Proper.{neither}
-use Rattle.codes.proofs.Passed.{counted, is-right}
+use Rattle.codes.specs.Checks.{spaceBytes}
 use Rattle.mark.specs.declared.Outcome.{Outcome}
 use Rattle.mark.specs.declared.Outcome.the-variants as outcomes
 use Rattle.ending.specs.Endings.{Buffers, meaning}
@@ -49,6 +45,7 @@ use Rattle.tray.specs.declared.Answer.{Answer}
 use Rattle.tray.specs.Promises.{answerOf, GivenTray, LeftTray, leftTray, Alone, Fills}
 use Rattle.tray.specs.Promises.{DecodesTray, alone, cells, receivedOf, markOf, checksTray}
 use Rattle.tray.proofs.Places.{row-within}
+use Rattle.tray.proofs.Single.{own-check as single-check}
 use Rattle.tray.proofs.Filled.{marks, HasPassed, has-passed}
 
 pub answer-tells : (e e′ : Ending) → answerOf e ≡ answerOf e′ → e ≡ e′
@@ -69,14 +66,6 @@ unfolding first
 seven-of true j e some = (e, refl)
 seven-of false j e some = absurd (omega arith)
 
--- the five tests of 5
-no-wrong : {a b c d e : Bool} → a ≡ false → b ≡ false → c ≡ false → d ≡ false → e ≡ false → (a || b || c || d || e) ≡ false
-no-wrong {a} {b} {c} {d} {e} p q r s t =
-    neither (a || b || c || d) e .1 (neither (a || b || c) d .1 (neither (a || b) c .1 (neither a b .1 (p, q), r), s), t)
-
-last-false : (a : Bool) {b : Bool} → (a || b) ≡ false → b ≡ false
-last-false a {b} e = neither a b .0 e .1
-
 module _ {A : Type 0} (say : Ending → A) (g : GivenTray A) where
   abbrev D : Description
   D = g .description
@@ -91,26 +80,12 @@ module _ {A : Type 0} (say : Ending → A) (g : GivenTray A) where
 
     own-check : first (checksOf (alone g k)) ≡ first ((7 when bad) ∷ [])
     own-check =
-        let p₁₅ = clear 14 _ _ (counted c _ none .1) in
-        let p₅ = clear 4 _ _ (p₁₅ .1) in
-        let p₆ = clear 5 _ _ (p₅ .1) in
-        let p₂₃ = clear 22 _ _ (p₆ .1) in
-        let p₈ = clear 7 _ _ (p₂₃ .1) in
-        let h = has-passed say g none in
+        let p = has-passed say g none in
         let n = columns c in
-        let lengths = no-wrong
-        (is-right (cells c) (receivedOf c k (g .received)) (length-part (k * cells c) (cells c) (g .received)
-        (row-within (cells c) (marks g) k (g .received) within (h .received))))
-        (is-right (cells c) (markOf c k (g .lent) .array) (length-part (k * cells c) (cells c) (g .lent .array)
-        (row-within (cells c) (marks g) k (g .lent .array) within (h .arrays))))
-        (is-right n (markOf c k (g .lent) .flags) (length-part (k * n) n (g .lent .flags)
-        (row-within n (marks g) k (g .lent .flags) within (h .flags))))
-        (le-ltb (length (g .space)) spaceBytes (h .space))
-        (last-false (wrongLength (marks g * cells c) (g .received) || wrongLength (marks g * cells c) (g .lent .array)
-        || wrongLength (marks g * n) (g .lent .flags) || ltb (length (g .space)) spaceBytes) (p₅ .0)) in
-        passed-on (codeChecks c) _ tt (front-passed (codeChecks c) _ tt none) refl
-        ∙ miss 5 _ _ lengths ∙ miss 6 _ _ (p₆ .0) ∙ miss 23 _ _ (p₂₃ .0)
-        ∙ same-behind ((7 when bad) ∷ []) _ [] tt (λ _. miss 8 _ [] (p₈ .0))
+        single-check D (g .limit) (p .common) (receivedOf c k (g .received)) (markOf c k (g .lent))
+        (length-part (k * cells c) (cells c) (g .received) (row-within (cells c) (marks g) k (g .received) within (p .received)))
+        (length-part (k * cells c) (cells c) (g .lent .array) (row-within (cells c) (marks g) k (g .lent .array) within (p .arrays)))
+        (length-part (k * n) n (g .lent .flags) (row-within n (marks g) k (g .lent .flags) within (p .flags))) (g .space) (p .space)
 
   module _ (l : LeftTray A) (h : DecodesTray say g l) where
     abbrev IsRefused : Type 0

@@ -1,5 +1,6 @@
 pub mod Places
-pub mod Space
+pub mod Shares
+pub mod Single
 pub mod Filled
 pub mod Again
 pub mod Unique

@@ -1,19 +1,25 @@
 // A tray: up to 64 marks of one code, decoded in one call.
 ghost use mathlib.Core.Path.{_≡_};
-ghost use mathlib.Core.List.{List};
+ghost use mathlib.Core.Bool.{false};
+ghost use mathlib.Core.List.{List, []};
 ghost use Prim.Native.Nat.{ℕ, _+_, _*_, _≤_};
 ghost use lib.ListN.{length};
-ghost use Rattle.refusal.specs.Refusal.{first};
+ghost use Rattle.refusal.specs.Refusal.{first, someOutsideField};
 ghost use Rattle.refusal.specs.Meaning.{packed};
 ghost use Rattle.codes.specs.Code.{codeOf};
 ghost use Rattle.codes.specs.Factors.{descriptionOf};
+ghost use Rattle.codes.specs.Checks.{spaceBytes};
+ghost use Rattle.codes.proofs.Passed.{Counts};
+ghost use Rattle.codes.proofs.Proper.{Proper};
 ghost use Rattle.array_checks.specs.Working.{Sizes};
 ghost use Rattle.ending.specs.Endings.{meaning};
 ghost use Rattle.joint.specs.Promises.{buffers};
+ghost use Rattle.joint.specs.Working.{StruckEnds};
 ghost use Rattle.tray.specs.Promises.{DecodesTray, answerOf, givenTray, leftTray, trayChecks, wrongLengths};
-ghost use Rattle.tray.specs.Working.{Lies, Marked, marksOf, opened, outcomeOf};
+ghost use Rattle.tray.specs.Working.{Begun, Decoded, Lies, Marked, Marking, Opened, clearedIf, marksOf, outcomeOf};
 use array_checks::SPACE;
 use ending::Ending;
+use field::tables;
 use mark::Outcome;
 
 // A mark's ending and its detail: 01's code and detail.
@@ -98,7 +104,20 @@ fn tray_refusal(
     0
 }
 
-// Opens a tray: the number that refuses it whole, which touches nothing; or 0, with the working space cleared.
+// Works out what all marks of a code share, at the front of the working space: the field's table, and behind it the inverses of the
+// longest row's rounds.
+fn share(degree: u32, lengths: &[u8], points: &[u8], space: &mut [u8])
+    requires { ⌜ Counts (codeOf degree (now points) (now lengths)) × Proper (codeOf degree (now points) (now lengths))
+        × (spaceBytes ≤ length (now space)) ⌝ }
+    ensures { λ _. ⌜ Begun (codeOf degree (now (points .entry)) (now (lengths .entry))) (now (space .entry)) (now (space .exit)) ⌝ }
+{
+    let table = tables::lend(degree);
+    rows::store(&table, space, 0);
+    rows::clear(space, 256, 9216);
+    conditions::inverses(&table, degree, lengths, points, &mut space[256..9472]);
+}
+
+// Opens a tray: the number that refuses it whole, which touches nothing; or 0, with what all marks share in the working space.
 fn open(
     degree: u32,
     lengths: &[u8],
@@ -113,7 +132,8 @@ fn open(
 ) -> u8
     ensures { λ r. ⌜ ((y a f : List ℕ) → length y ≡ received → length a ≡ arrays → length f ≡ flags
         → r ≡ first (trayChecks (descriptionOf degree (now (points .entry)) (now (factors .entry)) (now (lengths .entry))) limit marks
-        y a f (now (space .entry)))) × (now (space .exit) ≡ opened r (now (space .entry))) ⌝ }
+        y a f (now (space .entry))))
+        × Opened (codeOf degree (now (points .entry)) (now (lengths .entry))) r (now (space .entry)) (now (space .exit)) ⌝ }
 {
     let k = tray_refusal(
         degree,
@@ -128,7 +148,7 @@ fn open(
         space.len(),
     );
     if k == 0 {
-        rows::clear(&mut space[..SPACE], 0, SPACE);
+        share(degree, lengths, points, space);
     }
     k
 }
@@ -179,7 +199,89 @@ fn answer_of(ending: Ending) -> Answer
     }
 }
 
-// Decodes mark k of a tray that passed its checks.
+// Decodes a mark whose symbols are of the field, with what the space has for all marks. The solver has a room of its own.
+fn work_mark(
+    degree: u32,
+    lengths: &[u8],
+    points: &[u8],
+    factors: &[u8],
+    limit: u32,
+    received: &[u8],
+    array: &mut [u8],
+    flags: &mut [u8],
+    space: &[u8],
+) -> Ending
+    requires { ⌜ Marking (descriptionOf degree (now points) (now factors) (now lengths)) limit (now received)
+        (buffers (now array) (now flags)) (now space) × (someOutsideField degree (now received) ≡ false) ⌝ }
+    ensures { λ r. ⌜ StruckEnds (descriptionOf degree (now (points .entry)) (now (factors .entry)) (now (lengths .entry))) []
+        (now (received .entry)) limit (buffers (now (array .entry)) (now (flags .entry))) r
+        (buffers (now (array .exit)) (now (flags .exit))) ⌝ }
+{
+    let mut table = [0u8; 256];
+    let mut lines = [0u8; 3840];
+    rows::store(&space[..256], &mut table, 0);
+    joint::decode_struck(
+        &table,
+        degree,
+        lengths,
+        points,
+        &space[256..9472],
+        factors,
+        array_checks::all_ones(factors),
+        limit,
+        &received[..0],
+        received,
+        array,
+        flags,
+        &mut lines,
+    )
+}
+
+// How a mark ends: refused with 7 if a symbol is outside the field, and else as it is decoded.
+fn end_mark(
+    degree: u32,
+    lengths: &[u8],
+    points: &[u8],
+    factors: &[u8],
+    limit: u32,
+    received: &[u8],
+    array: &mut [u8],
+    flags: &mut [u8],
+    space: &[u8],
+) -> Ending
+    requires { ⌜ Marking (descriptionOf degree (now points) (now factors) (now lengths)) limit (now received)
+        (buffers (now array) (now flags)) (now space) ⌝ }
+    ensures { λ r. ⌜ Decoded (descriptionOf degree (now (points .entry)) (now (factors .entry)) (now (lengths .entry))) limit
+        (now (received .entry)) (buffers (now (array .entry)) (now (flags .entry))) r
+        (buffers (now (array .exit)) (now (flags .exit))) ⌝ }
+{
+    if refusal::some_outside_field(degree, received) {
+        return Ending::Refused(7);
+    }
+    work_mark(
+        degree,
+        lengths,
+        points,
+        factors,
+        limit,
+        received,
+        array,
+        flags,
+        space,
+    )
+}
+
+// Clears the working space, behind the last mark.
+fn clear_behind(last: bool, space: &mut [u8])
+    requires { ⌜ spaceBytes ≤ length (now space) ⌝ }
+    ensures { λ _. ⌜ now (space .exit) ≡ clearedIf last (now (space .entry)) ⌝ }
+{
+    if last {
+        rows::clear(space, 0, SPACE);
+    }
+}
+
+// Decodes mark k of a tray that passed its checks; behind the last one the working space is cleared.
 fn decode_mark(
     k: usize,
     degree: u32,
@@ -192,7 +294,8 @@ fn decode_mark(
     flags: &mut [u8],
     space: &mut [u8],
 ) -> Answer
-    requires { ⌜ Lies (codeOf degree (now points) (now lengths)) k (now received) (buffers (now arrays) (now flags)) ⌝ }
+    requires { ⌜ Lies (descriptionOf degree (now points) (now factors) (now lengths)) limit k (now received)
+        (buffers (now arrays) (now flags)) (now space) ⌝ }
     ensures { λ r. ⌜ Marked (descriptionOf degree (now (points .entry)) (now (factors .entry)) (now (lengths .entry))) limit k
         (now (received .entry)) (buffers (now (arrays .entry)) (now (flags .entry))) (now (space .entry)) r
         (buffers (now (arrays .exit)) (now (flags .exit))) (now (space .exit)) ⌝ }
@@ -201,7 +304,7 @@ fn decode_mark(
     let cells = lengths.len() * n;
     let at = k * cells;
     let first = k * n;
-    answer_of(joint::decode(
+    let ending = end_mark(
         degree,
         lengths,
         points,
@@ -211,7 +314,9 @@ fn decode_mark(
         &mut arrays[at..at + cells],
         &mut flags[first..first + n],
         space,
-    ))
+    );
+    clear_behind(at + cells == arrays.len(), space);
+    answer_of(ending)
 }
 
 // Decodes up to 64 marks of one code, whose arrays lie one after another: refusals 1 to 4, 18, 15, 5, 6, 23 and 8, which touch

@@ -3,7 +3,7 @@
 use mathlib.Core.Path.{_≡_, sym, ap, _∙_}
 use mathlib.Core.List.{List}
 use Prim.Native.Nat.{ℕ, _*_, _≤_, _<_}
-use native.Mathlib.Nat.{mul-le-mul, le-of-eq}
+use native.Mathlib.Nat.{mul-le-mul}
 use native.Mathlib.Omega.{arith}
 use lib.ListN.{length, take, replicate}
 use lib.Seq.{length-take-le, length-front, take-at}
@@ -16,7 +16,7 @@ use Rattle.codes.proofs.Lost.{lost-length, core-few, core-array}
 use Rattle.joint.specs.Promises.{buffers}
 use Rattle.joint.specs.Working.{ReadyLost}
 use Rattle.remaining.proofs.Fronts.{lost-front}
-use Rattle.joint.proofs.Lost.{rest-passed}
+use Rattle.joint.proofs.Lost.{rest-ready}
 use borrow.Author.Needs.{needs}
 use Rattle.joint.proofs.decode_rest.Statement.{statement}
 use Rattle.joint.proofs.decode_rest.Tie as tie
@@ -41,7 +41,7 @@ module _ (c : tie.After-lost-flags) where
   n = length (start .args .points .now)
 
   ready : ReadyLost code (start .args .limit) L y
-  ready = start .pre .0
+  ready = start .pre .0 .0
 
   few : n ≤ 96
   few = ready .counts .most-columns
@@ -110,13 +110,19 @@ module _ (c : tie.After-gather-rows) where
   own-size = length-take-le _ (replicate 384 0) (omega (arith, few-cells))
 
   wrong-size : length (take (gathered .gather .result) (start at .args .wrong .now)) ≡ gathered .gather .result
-  wrong-size = length-take-le _ (start at .args .wrong .now) (omega (arith, room gathered, start at .pre .2))
+  wrong-size = length-take-le _ (start at .args .wrong .now) (omega (arith, room gathered, start at .pre .0 .2))
+
+  held-room : gathered .gather .result ≤ length (gathered .gather .last .1 .1 .0)
+  held-room = omega (arith, held-long gathered, room gathered)
+
+  held-size : length (take (gathered .gather .result) (gathered .gather .last .1 .1 .0)) ≡ gathered .gather .result
+  held-size = length-take-le _ (gathered .gather .last .1 .1 .0) held-room
 
 lost-flags-requires : tie.Need-lost-flags-requires
 lost-flags-requires c κs =
     let s = c .before .before .before .before .before .before in
     all-map (λ (i : ℕ). i < length (s .args .points .now)) (λ (i : ℕ). i < 96) (s .args .lost .now)
-    (λ i h. omega (arith, s .pre .0 .counts .most-columns)) (s .pre .0 .remain .lost .below)
+    (λ i h. omega (arith, s .pre .0 .0 .counts .most-columns)) (s .pre .0 .0 .remain .lost .below)
 
 gather-requires : tie.Need-gather-requires
 gather-requires c κs = let d = c .before .before in (sym (size d), omega (arith, size d, few d))
@@ -126,39 +132,36 @@ gather-rows-requires c κs =
     let d = flagged (c .before .before .before) in
     (ready d .received .count ∙ ap (_*_ (rows (code d))) (sym (size d)), omega (arith, ready d .received .count, ready d .counts .cells))
 
-mul-cells : tie.Need-mul-cells
-mul-cells c = omega (arith, few-cells (c .before))
-
-work-requires : tie.Need-work-requires
-work-requires c κs =
-    let g = c .before .before .before .before .before .before in
-    let d = at g in (
-      rw (points (gathered g), symbols g)
-          (rest-passed (ready d) _ _ _ (own-size g ∙ count g) (wrong-size g ∙ left (gathered g)) (le-of-eq (sym (start d .pre .1)))),
-      start d .pre .1,
+work-whole-requires : tie.Need-work-whole-requires
+work-whole-requires c κs =
+    let g = c .before .before .before .before .before .before .before in
+    let d = at g in
+    rw (points (gathered g), symbols g) (
+      (rest-ready (ready d), ready d .remain .limit),
+      (
+        (own-size g ∙ count g ∙ sym (core-array (code d) (L d) (ready d .received) .count), wrong-size g ∙ left (gathered g), start d .pre .0 .1),
+        (start d .pre .1, λ some. absurd (omega (arith, some))),
+      ),
     )
 
 returns : tie.Need-returns
 returns c =
     let w = c .before .before .before .before .before in
-    let g = w .before .before .before .before .before .before .before in
+    let g = c .before .before .before .before .before .before .before .before .before .before .before .before .before in
     let d = at g in
-    let flags = w .work .last .1 .1 .1 .1 .1 .1 .0 in
-    let sized = w .work .kept .1 .1 .1 .1 .1 .1 .0 in (
+    let flags = w .work-whole .last .1 .1 .1 .1 .1 .1 .1 .1 .0 in
+    let sized = w .work-whole .kept .1 .1 .1 .1 .1 .1 .1 .1 .0 in (
       record {
         lent = _;
-        left = buffers (w .work .last .1 .1 .1 .1 .1 .0) flags;
-        ends = rw (points (gathered g), symbols g) at (w .work .ensures .0);
+        left = buffers (w .work-whole .last .1 .1 .1 .1 .1 .1 .1 .0) flags;
+        ends = rw (points (gathered g), symbols g) at (w .work-whole .ensures);
         flags = sym (take-at flags _ _ (sized ∙ wrong-size g ∙ left (gathered g)));
       },
-      length-front (start d .args .wrong .now) flags (gathered g .gather .result) sized ∙ start d .pre .2,
-      w .work .ensures .1,
+      length-front (start d .args .wrong .now) flags (gathered g .gather .result) sized ∙ start d .pre .0 .2,
     )
 
 pub decode-rest-spec : {M : Type 1} → statement M
-decode-rest-spec =
-    tie.close
-    (tie.spec
+decode-rest-spec = tie.close (tie.spec
     lost-flags-requires
     (λ c. omega (arith, long c, few c))
     (λ c. sym (size (c .before)))
@@ -168,18 +171,17 @@ decode-rest-spec =
     (λ c. sym (size (flagged (c .before .before))))
     (λ c. search needs)
     gather-rows-requires
-    mul-cells
-    (λ c. omega (arith, held-long (gathered (c .before)), room (gathered (c .before))))
-    (λ c. sym (length-take-le _ (gathered (c .before .before) .gather .last .1 .1 .0)
-    (omega (arith, held-long (gathered (c .before .before)), room (gathered (c .before .before))))))
-    (λ c. omega (arith, kept-long (c .before .before), few-cells (c .before .before)))
-    (λ c. sym (length-take-le _ (c .before .before .before .gather-rows .last .1 .1 .1 .0)
-    (omega (arith, kept-long (c .before .before .before), few-cells (c .before .before .before)))))
-    (λ c. omega (arith, few-cells (c .before .before .before)))
-    (λ c. sym (own-size (c .before .before .before .before)))
-    (λ c. omega (arith, room (gathered (c .before .before .before .before)), start (at (c .before .before .before .before)) .pre .2))
-    (λ c. sym (wrong-size (c .before .before .before .before .before)))
-    work-requires
+    (λ c. omega (arith, few-cells (c .before)))
+    (λ c. held-room (c .before))
+    (λ c. sym (held-size (c .before .before)))
+    (λ c. search needs)
+    (λ c. let g = c .before .before .before in omega (arith, kept-long g, few-cells g))
+    (λ c. let g = c .before .before .before .before in sym (length-take-le _ (g .gather-rows .last .1 .1 .1 .0) (omega (arith, kept-long g, few-cells g))))
+    (λ c. omega (arith, few-cells (c .before .before .before .before)))
+    (λ c. sym (own-size (c .before .before .before .before .before)))
+    (λ c. let g = c .before .before .before .before .before in omega (arith, room (gathered g), start (at g) .pre .0 .2))
+    (λ c. sym (wrong-size (c .before .before .before .before .before .before)))
+    work-whole-requires
     (λ c. search needs)
     (λ c. search needs)
     returns)

@@ -68,8 +68,8 @@ use Rattle.mark.proofs.Outcome.Laws as O′
 use Rattle.joint.specs.Promises.{buffers}
 use Rattle.tray.specs.declared.Answer.{Answer}
 use Rattle.tray.specs.Promises.{answerOf, GivenTray, givenTray, leftTray, checksTray, trayChecks, DecodesTray}
-use Rattle.tray.specs.Working.{opened, marksOf, outcomeOf, Lies, Marked}
-use Rattle.tray.proofs.Filled.{Held, held-sizes, held-first, below-marks, held-lies, held-next, held-last, opened-length}
+use Rattle.tray.specs.Working.{Opened, marksOf, outcomeOf, Lies, Marked}
+use Rattle.tray.proofs.Filled.{Held, held-sizes, held-first, below-marks, held-lies, held-next, held-last}
 use Rattle.tray.proofs.Answer as T
 use Rattle.tray.proofs.Answer.Laws as T′
 use Rattle.tray.proofs.open.Symbol as open-def
@@ -278,17 +278,16 @@ module _ {M : Type 1} (𝓤 : URA M) (H : Heap 𝓤) (A : Atoms 𝓤) (W : Given
   BackMark = lending.BackMark 𝓤 H A W at-mem run κ₀ κ₁ κ₂ κ₃ κ₅ κ₆ κ₇ q₀ q₁ q₂ q₃ q₅ q₆ q₇ d τ x₀ x₁ x₂ x₃ x₄ x₅ x₆ x₇
 
   module _ (d-fits : d < 2 ^ 32) (τ-fits : τ < 2 ^ 32) (room₄ : Room R (length (x₄ .now))) where
-    exits : (k i : ℕ) (s : List Answer) (l₅ l₆ : List ℕ)
-        (sizes : (length s ≡ length (x₄ .now)) × (length l₅ ≡ length (x₅ .now)) × (length l₆ ≡ length (x₆ .now)))
-        (same-space : length (opened k (x₇ .now)) ≡ length (x₇ .now)) (o : Outcome)
-        (kept : DecodesTray answerOf g (leftTray o s (buffers l₅ l₆) (opened k (x₇ .now)))) (r : Val)
+    exits : (s : List Answer) (l₅ l₆ l₇ : List ℕ)
+        (sizes : (length s ≡ length (x₄ .now)) × (length l₅ ≡ length (x₅ .now)) × (length l₆ ≡ length (x₆ .now))
+        × (length l₇ ≡ length (x₇ .now))) (o : Outcome) (kept : DecodesTray answerOf g (leftTray o s (buffers l₅ l₆) l₇)) (r : Val)
         → ent 𝓤 (⋆ 𝓤 H A (‵ (O.the-row .own o (r ∷ [])) ∷ ‵ (fobs (x₄ .name) (codedHoleys R .code (heres R s)))
         ∷ ‵ (fbor κ₄ (Borrowed R (length s) (x₄ .ptr .0) (x₄ .ptr .1) (x₄ .name))) ∷ ‵ (flft κ₄ q₄) ∷ Tokens ∷ Shareds
-        ∷ Lent l₅ l₆ (opened k (x₇ .now)) ∷ [])) (Post r)
-    exits k i s l₅ l₆ sizes same-space o kept r =
+        ∷ Lent l₅ l₆ l₇ ∷ [])) (Post r)
+    exits s l₅ l₆ l₇ sizes o kept r =
         qed W (‵ (O.the-row .own o (r ∷ [])) ∷ ‵ (fobs (x₄ .name) (codedHoleys R .code (heres R s)))
         ∷ ‵ (fbor κ₄ (Borrowed R (length s) (x₄ .ptr .0) (x₄ .ptr .1) (x₄ .name))) ∷ ‵ (flft κ₄ q₄) ∷ Tokens ∷ Shareds
-        ∷ Lent l₅ l₆ (opened k (x₇ .now)) ∷ []) ∵
+        ∷ Lent l₅ l₆ l₇ ∷ []) ∵
         suffices ! _ (ends-at 𝓤 H A decode.ended stayed (decode.clauses 𝓤 H A at-mem run) W bound r o (
           tt,
           (
@@ -297,7 +296,7 @@ module _ {M : Type 1} (𝓤 : URA M) (H : Heap 𝓤) (A : Atoms 𝓤) (W : Given
               tt,
               (
                 tt,
-                (tt, (tt, (s, (l₅, (l₆, (opened k (x₇ .now), tt)))))),
+                (tt, (tt, (s, (l₅, (l₆, (l₇, tt)))))),
               ),
             ),
           ),
@@ -318,9 +317,8 @@ module _ {M : Type 1} (𝓤 : URA M) (H : Heap 𝓤) (A : Atoms 𝓤) (W : Given
                       (
                         sizes .1,
                         (
-                          sizes
-                              .2,
-                          (same-space, tt),
+                          sizes .2,
+                          (sizes .3, tt),
                         ),
                       ),
                     ),
@@ -366,14 +364,23 @@ module _ {M : Type 1} (𝓤 : URA M) (H : Heap 𝓤) (A : Atoms 𝓤) (W : Given
         answers : List Answer
         arrays : List ℕ
         flags : List ℕ
-        held : Held answerOf g k i answers (buffers arrays flags)
+        space : List ℕ
+        held : Held answerOf g k i answers (buffers arrays flags) space
 
-      abbrev begun : (k : ℕ) → State k
-      begun k = record { i = 0; answers = x₄ .now; arrays = x₅ .now; flags = x₆ .now; held = held-first answerOf g k }
+      module _ (k : ℕ) (number : k ≡ firstOf (checksTray g)) where
+        abbrev begun : (w : List ℕ) → Opened (g .description .code) k (x₇ .now) w → State k
+        begun w h = record {
+          i = 0;
+          answers = x₄ .now;
+          arrays = x₅ .now;
+          flags = x₆ .now;
+          space = w;
+          held = held-first answerOf g k w number h;
+        }
 
-      sizes : {k : ℕ} (t : State k)
-          → (length (t .answers) ≡ length (x₄ .now)) × (length (t .arrays) ≡ length (x₅ .now)) × (length (t .flags) ≡ length (x₆ .now))
-      sizes {k} t = held-sizes answerOf g k (t .i) (t .answers) (buffers (t .arrays) (t .flags)) (t .held)
+        sizes-of : (t : State k) → (length (t .answers) ≡ length (x₄ .now)) × (length (t .arrays) ≡ length (x₅ .now))
+            × (length (t .flags) ≡ length (x₆ .now)) × (length (t .space) ≡ length (x₇ .now))
+        sizes-of t = held-sizes answerOf g k (t .i) (t .answers) (buffers (t .arrays) (t .flags)) (t .space) number (t .held)
 
       abbrev Nearer : (k m : ℕ) → State k → State k → Type 0
       Nearer k m u t = m - u .i < m - t .i
@@ -433,7 +440,7 @@ module _ {M : Type 1} (𝓤 : URA M) (H : Heap 𝓤) (A : Atoms 𝓤) (W : Given
 
         module _ (k : ℕ) where
           abbrev At : (m : ℕ) → State k → List (Item 𝓤)
-          At m t = Around (t .answers) (t .arrays) (t .flags) (opened k (x₇ .now)) (‵ (fat fullShare (tyInt w8) l₁₁ 0 (vint w8 k)))
+          At m t = Around (t .answers) (t .arrays) (t .flags) (t .space) (‵ (fat fullShare (tyInt w8) l₁₁ 0 (vint w8 k)))
               (‵ (fat fullShare (tyInt w64) l₁₂ 0 (vint w64 m))) (‵ (fat fullShare (tyInt w64) l₁₃ 0 (vint w64 (t .i))))
 
           module _ (k-fits : k < 2 ^ 8) (number : k ≡ firstOf (checksTray g)) (m : ℕ) (m-fits : m < 2 ^ 64)
@@ -442,8 +449,9 @@ module _ {M : Type 1} (𝓤 : URA M) (H : Heap 𝓤) (A : Atoms 𝓤) (W : Given
             Turned t = afterTurn 𝓤 H (Below 𝓤 H A (Nearer k m) (At m) t)
                 (afterBlock 𝓤 H (afterSeq 𝓤 H (Wp 𝓤 H C Λ En mir-code.t-12 (atReturn 𝓤 H En Post)) (atReturn 𝓤 H En Post)))
 
-            same-space : length (opened k (x₇ .now)) ≡ length (x₇ .now)
-            same-space = opened-length answerOf g k number
+            sizes : (t : State k) → (length (t .answers) ≡ length (x₄ .now)) × (length (t .arrays) ≡ length (x₅ .now))
+                × (length (t .flags) ≡ length (x₆ .now)) × (length (t .space) ≡ length (x₇ .now))
+            sizes = sizes-of k number
 
             -- a turn that decodes a mark
             module _ (t : State k) (less : t .i < m) where
@@ -465,19 +473,13 @@ module _ {M : Type 1} (𝓤 : URA M) (H : Heap 𝓤) (A : Atoms 𝓤) (W : Given
               next-fits : t .i + 1 < 2 ^ 64
               next-fits = places (t .i) (length (x₄ .now)) below (room₄ .0) (room₄ .1) .1
 
-              lies : Lies (g .description .code) (t .i) (x₃ .now) (buffers (t .arrays) (t .flags))
-              lies = held-lies answerOf g k (t .i) (t .answers) (buffers (t .arrays) (t .flags)) number (t .held) among
+              lies : Lies (g .description) τ (t .i) (x₃ .now) (buffers (t .arrays) (t .flags)) (t .space)
+              lies = held-lies answerOf g k (t .i) (t .answers) (buffers (t .arrays) (t .flags)) (t .space) number (t .held) among
 
               abbrev Left-by : Result → Type 0
-              Left-by z = Marked (g .description) τ (t .i) (x₃ .now) (buffers (t .arrays) (t .flags)) (opened k (x₇ .now)) (z .answer)
+              Left-by z = Marked (g .description) τ (t .i) (x₃ .now) (buffers (t .arrays) (t .flags)) (t .space) (z .answer)
                   (buffers (z .arrays) (z .flags)) (z .space) × (length (z .arrays) ≡ length (t .arrays))
-                  × (length (z .flags) ≡ length (t .flags)) × (length (z .space) ≡ length (opened k (x₇ .now)))
-
-              next : (z : Result) → Left-by z → Held answerOf g k (t .i + 1) (set (t .answers) (t .i) (z .answer))
-                  (buffers (z .arrays) (z .flags))
-                  × (z .space ≡ opened k (x₇ .now))
-              next z h = held-next answerOf g k (t .i) (t .answers) (buffers (t .arrays) (t .flags)) number (t .held) among (z .answer)
-                  (buffers (z .arrays) (z .flags)) (z .space) (h .0) (z .answer) (h .0 .answer)
+                  × (length (z .flags) ≡ length (t .flags)) × (length (z .space) ≡ length (t .space))
 
               abbrev after : (z : Result) → Left-by z → State k
               after z h = record {
@@ -485,7 +487,9 @@ module _ {M : Type 1} (𝓤 : URA M) (H : Heap 𝓤) (A : Atoms 𝓤) (W : Given
                 answers = set (t .answers) (t .i) (z .answer);
                 arrays = z .arrays;
                 flags = z .flags;
-                held = next z h .0;
+                space = z .space;
+                held = held-next answerOf g k (t .i) (t .answers) (buffers (t .arrays) (t .flags)) (t .space) number (t .held) among
+                    (z .answer) (buffers (z .arrays) (z .flags)) (z .space) (h .0) (z .answer) (h .0 .answer);
               }
 
               nearer : (z : Result) (h : Left-by z) → Nearer k m (after z h) t
@@ -517,27 +521,25 @@ module _ {M : Type 1} (𝓤 : URA M) (H : Heap 𝓤) (A : Atoms 𝓤) (W : Given
                   assigns ! (agg ! (and-then ! (load ! (from ! (stop !)) (look ! 13 refl)) (and-then ! (load ! (from ! (fld !
                   refl (stop !))) (look-in ! 45 (sub ! 1 refl (whole !)))) (no-more !)))) (from ! (stop !)) (init ! 11 refl
                   (tt, (tt, (record { fits = room₇ .0 }, tt)))) $ move ! (4 ∷ 5 ∷ 6 ∷ []) $
-                  use3 W (later (some (λ (p : Names). OutMark p (t .i) (t .arrays) (t .flags) (opened k (x₇ .now)))))
+                  use3 W (later (some (λ (p : Names). OutMark p (t .i) (t .arrays) (t .flags) (t .space))))
                   (lending.lends-mark 𝓤 H A W at-mem run κ₀ κ₁ κ₂ κ₃ κ₅ κ₆ κ₇ q₀ q₁ q₂ q₃ q₅ q₆ q₇ d τ x₀ x₁ x₂ x₃ x₄ x₅ x₆ x₇
-                  d-fits τ-fits (t .i) (t .arrays) (t .flags) (opened k (x₇ .now)) (sizes t .1) (sizes t .2) same-space i-fits
+                  d-fits τ-fits (t .i) (t .arrays) (t .flags) (t .space) (sizes t .1) (sizes t .2) (sizes t .3) i-fits
                   lies) $ await ! tt $ pick ! (λ p. split ! $ move ! (1 ∷ []) $ split ! $ move ! (2 ∷ []) $
-                  calls-at ! fm (Mark 𝓤 H A at-mem run) known-mark (to-mark p (t .i) (t .arrays) (t .flags) (opened k (x₇
-                  .now))) (and-then ! (load ! (from ! (stop !)) (look ! 39 refl)) (and-then ! (load ! (from ! (stop !)) (look !
+                  calls-at ! fm (Mark 𝓤 H A at-mem run) known-mark (to-mark p (t .i) (t .arrays) (t .flags) (t .space)) (and-then ! (load ! (from ! (stop !)) (look ! 39 refl)) (and-then ! (load ! (from ! (stop !)) (look !
                   63 refl)) (and-then ! (load ! (from ! (stop !)) (look ! 61 refl)) (and-then ! (load ! (from ! (stop !)) (look
                   ! 59 refl)) (and-then ! (load ! (from ! (stop !)) (look ! 57 refl)) (and-then ! (load ! (from ! (stop !))
                   (look ! 55 refl)) (and-then ! (load ! (from ! (stop !)) (look ! 53 refl)) (and-then ! (load ! (from ! (stop
                   !)) (look ! 19 refl)) (and-then ! (load ! (from ! (stop !)) (look ! 15 refl)) (and-then ! (load ! (from !
                   (stop !)) (look ! 11 refl)) (no-more !))))))))))) (λ r. move ! (0 ∷ 2 ∷ []) $
-                  use2 W (later (some (λ (z : Result). BackMark r (t .i) (t .arrays) (t .flags) (opened k (x₇ .now)) z)))
+                  use2 W (later (some (λ (z : Result). BackMark r (t .i) (t .arrays) (t .flags) (t .space) z)))
                   (lending.back-mark 𝓤 H A W at-mem run κ₀ κ₁ κ₂ κ₃ κ₅ κ₆ κ₇ q₀ q₁ q₂ q₃ q₅ q₆ q₇ d τ x₀ x₁ x₂ x₃ x₄ x₅ x₆ x₇
-                  d-fits τ-fits (t .i) (t .arrays) (t .flags) (opened k (x₇ .now)) (sizes t .1) (sizes t .2) same-space room₅
+                  d-fits τ-fits (t .i) (t .arrays) (t .flags) (t .space) (sizes t .1) (sizes t .2) (sizes t .3) room₅
                   room₆ room₇ p r) $ await ! tt $ pick ! (λ z. learn ! (λ h. split ! $ move ! (1 ∷ []) $ split ! $
                   move ! (2 ∷ []) $ peeks ! R (Is R) (shows 𝓤 H A R) (z .answer) (r ∷ []) (λ is.
                   land ! (from ! (stop !)) (init ! 24 refl (LL.lawful T.the-type T′.the-laws 𝓤 H A W .typed (z .answer) _ is
                   .0)) $
                   rewrite ! 24 (λ (u : Val). ‵ (fat fullShare T′.mir l₂₁ 0 u)) (ap only (spelled (z .answer) r is)) refl $
                   rewrite ! 0 (λ (us : List Val). ‵ (R .own (z .answer) us)) (spelled (z .answer) r is) refl $
-                  rewrite ! 2 (λ (l : List ℕ). Lent (z .arrays) (z .flags) l) (next z h .1) refl $
                   -- the answer is stored
                   assigns ! (bin ! (load ! (from ! (stop !)) (look ! 40 refl)) (lit ! tt) (record { fits = twice-fits })) (from
                   ! (stop !)) (init ! 10 refl (tt, record { fits = twice-fits })) $
@@ -565,8 +567,8 @@ module _ {M : Type 1} (𝓤 : URA M) (H : Heap 𝓤) (A : Atoms 𝓤) (W : Given
             -- the turn that leaves the loop, and what follows it
             module _ (t : State k) (over : m ≤ t .i) where
               promised : (o : Outcome) → o ≡ outcomeOf k
-                  → DecodesTray answerOf g (leftTray o (t .answers) (buffers (t .arrays) (t .flags)) (opened k (x₇ .now)))
-              promised o e = held-last answerOf g k (t .i) (t .answers) (buffers (t .arrays) (t .flags)) number (t .held)
+                  → DecodesTray answerOf g (leftTray o (t .answers) (buffers (t .arrays) (t .flags)) (t .space))
+              promised o e = held-last answerOf g k (t .i) (t .answers) (buffers (t .arrays) (t .flags)) (t .space) number (t .held)
                   (λ h. let h′ : t .i < m = subst (λ (n : ℕ). t .i < n) (sym is-m) h in omega arith) o e
 
               ends : Sq W (At m t) (runs C Λ En mir-code.turn-1 (anyQ (Turned t)))
@@ -600,7 +602,7 @@ module _ {M : Type 1} (𝓤 : URA M) (H : Heap 𝓤) (A : Atoms 𝓤) (W : Given
                   move ! (19 ∷ 20 ∷ []) $ free1 ! $ move ! (17 ∷ 18 ∷ []) $ free1 ! $ move ! (15 ∷ 16 ∷ []) $ free1 ! $
                   move ! (13 ∷ 14 ∷ []) $ free1 ! $ move ! (11 ∷ 12 ∷ []) $ free1 ! $ move ! (9 ∷ 10 ∷ []) $ free1 ! $
                   move ! (7 ∷ 8 ∷ []) $ free1 ! $ free0 ! $ keep ! (0 ∷ 1 ∷ 2 ∷ 3 ∷ 4 ∷ 5 ∷ 6 ∷ []) $
-                  by ! (exits k (t .i) (t .answers) (t .arrays) (t .flags) (sizes t) same-space o (promised o e₂) r)))))
+                  by ! (exits (t .answers) (t .arrays) (t .flags) (t .space) (sizes t) o (promised o e₂) r)))))
 
             turns : (t : State k) → Sq W (At m t) (runs C Λ En mir-code.turn-1 (anyQ (Turned t)))
             turns t = go (decLt (t .i) m)
@@ -617,8 +619,9 @@ module _ {M : Type 1} (𝓤 : URA M) (H : Heap 𝓤) (A : Atoms 𝓤) (W : Given
           numbered k h = h (x₃ .now) (x₅ .now) (x₆ .now) refl refl refl
 
           -- from `marks_left` on
-          module _ (k : ℕ) (k-fits : k < 2 ^ 8) (number : k ≡ firstOf (checksTray g)) where
-            counting : Sq W (Around (x₄ .now) (x₅ .now) (x₆ .now) (opened k (x₇ .now)) (‵ (fat fullShare (tyInt w8) l₁₁ 0 (vint w8 k)))
+          module _ (k : ℕ) (k-fits : k < 2 ^ 8) (number : k ≡ firstOf (checksTray g)) (w : List ℕ)
+              (h : Opened (g .description .code) k (x₇ .now) w) where
+            counting : Sq W (Around (x₄ .now) (x₅ .now) (x₆ .now) w (‵ (fat fullShare (tyInt w8) l₁₁ 0 (vint w8 k)))
                 (‵ (froom (tyInt w64) l₁₂ 0)) (‵ (froom (tyInt w64) l₁₃ 0))) (runs C Λ En mir-code.t-8 (atRet En Post))
             counting =
                 assigns ! (of-opd ! (load ! (from ! (fld ! refl (stop !))) (look-in ! 51 (sub ! 1 refl (whole !))))) (from !
@@ -635,7 +638,7 @@ module _ {M : Type 1} (𝓤 : URA M) (H : Heap 𝓤) (A : Atoms 𝓤) (W : Given
                 rewrite ! 41 (λ (u : Val). ‵ (fat fullShare (tyInt w64) l₁₂ 0 u)) (ap only (is .0)) refl $
                 assigns ! (of-opd ! (lit ! tt)) (from ! (stop !)) (init ! 39 refl (tt, record { fits = lit< tt })) $
                 forget ! 37 refl $ first ! $ blocks ! $
-                loops ! 𝓣 (Nearer k m) (Nearer-wf k m) (At k m) (turns k k-fits number m (is .1) e) (begun k)))))
+                loops ! 𝓣 (Nearer k m) (Nearer-wf k m) (At k m) (turns k k-fits number m (is .1) e) (begun k number w h)))))
 
           -- from `open` on
           opening : Sq W (Around (x₄ .now) (x₅ .now) (x₆ .now) (x₇ .now) (‵ (froom (tyInt w8) l₁₁ 0)) (‵ (froom (tyInt w64) l₁₂ 0))
@@ -671,13 +674,12 @@ module _ {M : Type 1} (𝓤 : URA M) (H : Heap 𝓤) (A : Atoms 𝓤) (W : Given
               await ! tt $ pick ! (λ z. learn ! (λ h. split ! $ move ! (1 ∷ []) $ split ! $ move ! (2 ∷ []) $
               facts ! u8 (Is u8) (shows 𝓤 H A u8) (z .0) (r ∷ []) (λ is.
               land ! (from ! (stop !)) (init ! 43 refl (uint-lawful 𝓤 H A W w8 .typed (z .0) _ is .0)) $
-              rewrite ! 43 (λ (u : Val). ‵ (fat fullShare (tyInt w8) l₁₁ 0 u)) (ap only (is .0)) refl $
-              rewrite ! 1 (λ (l : List ℕ). Lent (x₅ .now) (x₆ .now) l) (h .0 .1) refl $ forget ! 37 refl $
+              rewrite ! 43 (λ (u : Val). ‵ (fat fullShare (tyInt w8) l₁₁ 0 u)) (ap only (is .0)) refl $ forget ! 37 refl $
               forget ! 35 refl $ forget ! 33 refl $ forget ! 31 refl $ forget ! 29 refl $ forget ! 27 refl $
               keep ! (3 ∷ 4 ∷ 5 ∷ 6 ∷ 0 ∷ 2 ∷ 1 ∷ 7 ∷ 8 ∷ 9 ∷ 10 ∷ 11 ∷ 12 ∷ 13 ∷ 14 ∷ 15 ∷ 16 ∷ 17 ∷ 18 ∷ 19 ∷ 20 ∷ 21 ∷ 22
               ∷ 23 ∷ 24 ∷ 25 ∷ 26 ∷ 27 ∷ 28 ∷ 29 ∷ 30 ∷ 31 ∷ 32 ∷ 33 ∷ 34 ∷ 35 ∷ 36 ∷ 37 ∷ 38 ∷ 39 ∷ 40 ∷ 41 ∷ 42 ∷ 43 ∷ 44
               ∷ 45 ∷ 46 ∷ 47 ∷ 48 ∷ 49 ∷ 50 ∷ 51 ∷ 52 ∷ 53 ∷ 54 ∷ 55 ∷ 56 ∷ 57 ∷ 58 ∷ 59 ∷ 60 ∷ 61 ∷ 62 ∷ 63 ∷ 64 ∷ 65 ∷ 66
-              ∷ []) $ counting (z .0) (is .1) (numbered (z .0) (h .0 .0)))))))
+              ∷ []) $ counting (z .0) (is .1) (numbered (z .0) (h .0 .0)) (z .1) (h .0 .1))))))
 
       -- and from the entry
       module _ (room₀ : Room u8 (length (x₀ .now))) (room₁ : Room u8 (length (x₁ .now))) (room₂ : Room u8 (length (x₂ .now)))

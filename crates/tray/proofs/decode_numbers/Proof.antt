@@ -8,14 +8,15 @@ use native.Mathlib.Omega.{arith}
 use lib.ListN.{length}
 use Rattle.refusal.specs.Refusal.{first}
 use Rattle.refusal.specs.Meaning.{packed}
+use Rattle.codes.specs.Code.{codeOf}
 use Rattle.codes.specs.Factors.{descriptionOf}
 use Rattle.ending.specs.Endings.{Buffers, meaning}
 use Rattle.ending.specs.declared.Ending.{Ending}
 use Rattle.joint.specs.Promises.{buffers}
 use Rattle.tray.specs.declared.Answer.{Answer}
 use Rattle.tray.specs.Promises.{answerOf, GivenTray, givenTray, leftTray, checksTray, DecodesTray}
-use Rattle.tray.specs.Working.{opened, marksOf, Lies, Marked}
-use Rattle.tray.proofs.Filled.{Held, held-sizes, held-first, below-marks, held-lies, held-next, held-last, opened-length}
+use Rattle.tray.specs.Working.{Opened, marksOf, Lies, Marked}
+use Rattle.tray.proofs.Filled.{Held, held-sizes, held-first, below-marks, held-lies, held-next, held-last}
 use borrow.Author.Needs.{needs}
 use Rattle.tray.proofs.decode_numbers.Statement.{statement}
 use Rattle.tray.proofs.decode_numbers.Tie as tie
@@ -28,8 +29,8 @@ tray d ks xs fs τ y s a f w = givenTray (descriptionOf d xs fs ks) τ y s (buff
 
 abbrev Inv-loop : tie.InvT-loop
 Inv-loop d ks xs fs τ y s₀ a₀ f₀ w₀ refused marks k₀ s a f w k =
-    (v : List ℕ) → w₀ ≡ opened refused v → refused ≡ first (checksTray (tray d ks xs fs τ y s₀ a₀ f₀ v))
-    → Held packs (tray d ks xs fs τ y s₀ a₀ f₀ v) refused k s (buffers a f) × (w ≡ opened refused v)
+    (v : List ℕ) → Opened (codeOf d xs ks) refused v w₀ → refused ≡ first (checksTray (tray d ks xs fs τ y s₀ a₀ f₀ v))
+    → Held packs (tray d ks xs fs τ y s₀ a₀ f₀ v) refused k s (buffers a f) w
 
 abbrev μ-loop : tie.MeasureT-loop
 μ-loop d ks xs fs τ y s₀ a₀ f₀ w₀ refused marks k₀ s a f w k = marks - k
@@ -68,12 +69,12 @@ module _ (c : tie.At-loop Inv-loop μ-loop) where
   abbrev b : Buffers
   b = buffers (c .loop .arrays) (c .loop .flags)
 
-  held : Held packs (g o) (k o) (c .loop .k) (c .loop .answers) b × (c .loop .space ≡ opened (k o) (g o .space))
+  held : Held packs (g o) (k o) (c .loop .k) (c .loop .answers) b (c .loop .space)
   held = c .loop .inv (g o .space) (o .open .ensures .1) (number o)
 
   sizes : (length (c .loop .answers) ≡ length (g o .answers)) × (length (c .loop .arrays) ≡ length (g o .lent .array))
-      × (length (c .loop .flags) ≡ length (g o .lent .flags))
-  sizes = held-sizes packs (g o) (k o) (c .loop .k) (c .loop .answers) b (held .0)
+      × (length (c .loop .flags) ≡ length (g o .lent .flags)) × (length (c .loop .space) ≡ length (g o .space))
+  sizes = held-sizes packs (g o) (k o) (c .loop .k) (c .loop .answers) b (c .loop .space) (number o) held
 
 -- a turn
 module _ (t : tie.In-loop Inv-loop μ-loop) where
@@ -93,10 +94,10 @@ abbrev marking : tie.After-number Inv-loop μ-loop → tie.After-decode-mark Inv
 marking c = c .before .before .before .before .before .before .before
 
 lies : (t : tie.In-loop Inv-loop μ-loop) → let at = t .before in
-    Lies (g (o at) .description .code) (at .loop .k) (g (o at) .received) (b at)
+    Lies (g (o at) .description) (g (o at) .limit) (at .loop .k) (g (o at) .received) (b at) (at .loop .space)
 lies t =
     let at = t .before in
-    held-lies packs (g (o at)) (k (o at)) (at .loop .k) (at .loop .answers) (b at) (number (o at)) (held at .0) (among t)
+    held-lies packs (g (o at)) (k (o at)) (at .loop .k) (at .loop .answers) (b at) (at .loop .space) (number (o at)) (held at) (among t)
 
 loop-again : tie.Need-loop-again Inv-loop μ-loop
 loop-again c v e n =
@@ -104,24 +105,19 @@ loop-again c v e n =
     let t = turn d in
     let at = t .before in
     let tray = lent (o at) v in
-    let (before, space) = at .loop .inv v e n in
     let b′ = buffers (d .decode-mark .last .1 .1 .1 .1 .1 .1 .1 .0) (d .decode-mark .last .1 .1 .1 .1 .1 .1 .1 .1 .0) in
-    let w′ = d .decode-mark .last .1 .1 .1 .1 .1 .1 .1 .1 .1 .0 in
-    let q = subst (λ (w : List ℕ). Marked (tray .description) (tray .limit) (at .loop .k) (tray .received) (b at) w
-    (d .decode-mark .result) b′ w′)
-    space (d .decode-mark .ensures) in
-    held-next packs tray (k (o at)) (at .loop .k) (at .loop .answers) (b at) n before (among t) (d .decode-mark .result) b′ w′ q
+    let q = d .decode-mark .ensures in
+    held-next packs tray (k (o at)) (at .loop .k) (at .loop .answers) (b at) (at .loop .space) n (at .loop .inv v e n) (among t)
+    (d .decode-mark .result) b′ (d .decode-mark .last .1 .1 .1 .1 .1 .1 .1 .1 .1 .0) q
     (c .number .result) (c .number .ensures ∙ as-packed (d .decode-mark .result) (q .ending) (q .answer))
 
 returns : tie.Need-returns Inv-loop μ-loop
 returns c =
     let at = c .before .before in
-    let (filled, space) = held at in
-    subst (λ (w : List ℕ). DecodesTray packs (g (o at)) (leftTray (c .outcome .result) (at .loop .answers) (b at) w)) (sym space)
-    (held-last packs (g (o at)) (k (o at)) (at .loop .k) (at .loop .answers) (b at) (number (o at)) filled
+    held-last packs (g (o at)) (k (o at)) (at .loop .k) (at .loop .answers) (b at) (at .loop .space) (number (o at)) (held at)
     (λ h. let h′ = subst (λ (n : ℕ). at .loop .k < n) (sym (at .before .marks-left .ensures)) h in omega
     (arith, c .before .loop-test .left))
-    (c .outcome .result) (c .outcome .ensures))
+    (c .outcome .result) (c .outcome .ensures)
 
 pub decode-numbers-spec : {M : Type 1} → statement M
 decode-numbers-spec = tie.close (tie.spec
@@ -129,7 +125,7 @@ decode-numbers-spec = tie.close (tie.spec
     μ-loop
     (λ c κs. search needs)
     (λ c κs. search needs)
-    (λ c v e n. (held-first packs (lent (opening c) v) (k (opening c)), e))
+    (λ c v e n. held-first packs (lent (opening c) v) (k (opening c)) _ n e)
     (λ c κs. lies (c .before .before .before))
     (λ c κs. search needs)
     (λ c. let few = lies (turn (marking c)) .few in omega arith)
@@ -141,5 +137,5 @@ decode-numbers-spec = tie.close (tie.spec
     (λ c. sizes (c .before .before) .0)
     (λ c. sizes (c .before .before) .1)
     (λ c. sizes (c .before .before) .2)
-    (λ c. let at = c .before .before in ap length (held at .1) ∙ opened-length packs (g (o at)) (k (o at)) (number (o at)))
+    (λ c. sizes (c .before .before) .3)
     returns)

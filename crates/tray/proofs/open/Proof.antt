@@ -1,19 +1,16 @@
--- `open` is the number that refuses the tray; where there is none, the working space is cleared.
+-- `open` is the number that refuses the tray; where there is none, the space gets what all marks share.
 -- Assumes nothing.
 use mathlib.Core.Path.{_≡_, refl, sym, _∙_}
 use mathlib.Core.List.{List}
-use Prim.Native.Nat.{ℕ, zero, suc, _≤_}
+use Prim.Native.Nat.{ℕ, zero, suc}
 use native.Mathlib.Omega.{arith}
-use lib.ListN.{length, take, replicate, length-replicate}
+use lib.ListN.{length, replicate, length-replicate}
 use Rattle.refusal.specs.Refusal.{first}
+use Rattle.codes.specs.Code.{Code}
 use Rattle.codes.specs.Factors.{Description, descriptionOf}
-use Rattle.codes.specs.Checks.{spaceBytes}
 use Rattle.tray.specs.Promises.{trayChecks}
-use Rattle.joint.specs.Promises.{cleared}
-use Rattle.joint.proofs.Blank.{blank-of, cleared-of}
-use Rattle.joint.proofs.Promised.{front-length}
-use Rattle.tray.specs.Working.{opened}
-use Rattle.tray.proofs.Filled.{passed}
+use Rattle.tray.specs.Working.{Begun, Opened}
+use Rattle.tray.proofs.Filled.{Passed, passed}
 use borrow.Author.Needs.{needs}
 use Rattle.tray.proofs.open.Statement.{statement}
 use Rattle.tray.proofs.open.Tie as tie
@@ -29,43 +26,29 @@ number : (c : tie.After-tray-refusal) (y a f : List ℕ) → let s = start c .ar
     → c .tray-refusal .result ≡ first (trayChecks (described (start c)) (s .limit) (s .marks) y a f (s .space .now))
 number c y a f p q r = c .tray-refusal .ensures y a f (start c .args .space .now) p q r refl
 
--- buffers of any lengths serve to read the space's off the checks
-enough : (c : tie.Then1) → spaceBytes ≤ length (start (c .before) .args .space .now)
-enough c =
+-- buffers of any lengths serve to read what the checks leave
+all-passed : (c : tie.Then1) → let s = start (c .before) .args in
+    Passed (described (start (c .before))) (s .limit) (s .marks) (replicate (s .received) 0) (replicate (s .arrays) 0)
+    (replicate (s .flags) 0) (s .space .now)
+all-passed c =
     let s = start (c .before) .args in
     passed (described (start (c .before))) (s .limit) (s .marks) (replicate (s .received) 0) (replicate (s .arrays) 0)
     (replicate (s .flags) 0) (s .space .now)
     (sym (c .if1 .taken) ∙ number (c .before) (replicate (s .received) 0) (replicate (s .arrays) 0) (replicate (s .flags) 0)
-    (length-replicate (s .received) 0) (length-replicate (s .arrays) 0) (length-replicate (s .flags) 0)) .space
+    (length-replicate (s .received) 0) (length-replicate (s .arrays) 0) (length-replicate (s .flags) 0))
 
-opened-none : (k : ℕ) (w : List ℕ) → ¬ (k ≡ 0) → w ≡ opened k w
-opened-none zero w h = absurd (h refl)
-opened-none (suc k) w h = refl
+opened-none : (c : Code) (k : ℕ) (w : List ℕ) → ¬ (k ≡ 0) → Opened c k w w
+opened-none c zero w h = absurd (h refl)
+opened-none c (suc k) w h = refl
 
-opened-some : (k : ℕ) (w v : List ℕ) → k ≡ 0 → v ≡ cleared w → v ≡ opened k w
-opened-some zero w v e h = h
-opened-some (suc k) w v e h = absurd (omega arith)
-
-returns : tie.Need-returns
-returns c =
-    let m = c .before .before in
-    let t = m .before .before in
-    let w = start (t .before) .args .space .now in (
-      number (t .before),
-      opened-some _ w _ (t .if1 .taken) (cleared-of (m .clear .last .0) w
-          (blank-of spaceBytes (take spaceBytes w) (m .clear .ensures) (front-length w (enough t)))
-          (m .clear .kept .0 ∙ front-length w (enough t))),
-    )
-
-returns-2 : tie.Need-returns-2
-returns-2 c = (number (c .before), opened-none _ _ (c .if1 .left))
+opened-some : (c : Code) (k : ℕ) (w v : List ℕ) → k ≡ 0 → Begun c w v → Opened c k w v
+opened-some c zero w v e h = h
+opened-some c (suc k) w v e h = absurd (omega arith)
 
 pub open-spec : {M : Type 1} → statement M
 open-spec = tie.close (tie.spec
     (λ c κs. search needs)
-    (λ c. enough c)
-    (λ c. sym (front-length (start (c .before .before) .args .space .now) (enough (c .before))))
-    (λ c κs. let w = start (c .before .before) .args .space .now in let l = front-length w (enough (c .before)) in omega arith)
+    (λ c κs. let p = all-passed (c .before) in (p .common .counts, p .common .proper, p .space))
     (λ c. search needs)
-    returns
-    returns-2)
+    (λ c. (number (c .before .before .before .before .before), opened-some _ _ _ _ (c .before .before .before .before .if1 .taken) (c .before .before .share .ensures)))
+    (λ c. (number (c .before), opened-none _ _ _ (c .if1 .left))))

@@ -1,7 +1,8 @@
 -- `ends::end` answers a code array with itself, and has the rest located.
 -- Assumes nothing.
 use mathlib.Core.Path.{_≡_, sym, ap₂, _∙_, subst}
-use Prim.Native.Nat.{_≤_}
+use mathlib.Core.List.{List}
+use Prim.Native.Nat.{ℕ, _≤_}
 use native.Mathlib.Omega.{arith}
 use lib.ListN.{length, take, replicate}
 use lib.Seq.{length-take-le}
@@ -14,7 +15,7 @@ use Rattle.ending.proofs.ModelCode.{code-ends}
 use Rattle.joint.specs.Promises.{buffers}
 use Rattle.conditions.specs.Working.{reducedPoints, reducedValues}
 use Rattle.conditions.proofs.Reduced.{most-points, length-values, all-reduced}
-use Rattle.joint.proofs.Blank.{zeros-front}
+use Rattle.joint.proofs.Cleared.{zeros-front}
 use borrow.Author.Needs.{needs}
 use Rattle.joint.proofs.ends.end.Statement.{statement}
 use Rattle.joint.proofs.ends.end.Tie as tie
@@ -22,111 +23,99 @@ use Rattle.joint.proofs.ends.end.Tie as tie
 abbrev code : tie.Start → Code
 code c = codeOf (c .args .degree) (c .args .points .now) (c .args .lengths .now)
 
+-- where the conditions are worked out
 module _ (c : tie.After-conditions) where
   abbrev start : tie.Start
-  start = c .before .before .before .before .before .before .before .before .before
+  start = c .before .before .before .before .before .before .before .before .before .before
 
-  few : c .conditions .result ≤ 380
-  few = omega (arith, c .conditions .ensures .0, most-points (start .args .points .now) (start .args .degree) (start .args .lengths .now) (start .pre .0 .counts))
+  abbrev d : ℕ
+  d = start .args .degree
 
-  points : take (c .conditions .result) (c .conditions .last .1 .1 .1 .1 .1 .1 .0) ≡ reducedPoints (start .args .points .now) (start .args .lengths .now)
-  points = take-lay (reducedPoints (start .args .points .now) (start .args .lengths .now)) (replicate 384 0) (c .conditions .ensures .2) (sym (c .conditions .ensures .0)) (omega (arith, few))
+  abbrev xs : List ℕ
+  xs = start .args .points .now
 
-  values : take (c .conditions .result) (c .conditions .last .1 .1 .1 .1 .1 .0) ≡ reducedValues (start .args .degree) (start .args .points .now) (start .args .lengths .now) (start .args .received .now)
-  values = take-lay (reducedValues (start .args .degree) (start .args .points .now) (start .args .lengths .now) (start .args .received .now)) (replicate 384 0) (c .conditions .ensures .1)
-      (length-values (start .args .degree) (start .pre .0 .proper .field) (start .args .points .now) (start .args .lengths .now) (start .args .received .now) (start .pre .0 .received .count) ∙ sym (c .conditions .ensures .0)) (omega (arith, few))
+  abbrev ks : List ℕ
+  ks = start .args .lengths .now
 
-slice-aggregate-conditions : tie.Need-slice-aggregate-conditions
-slice-aggregate-conditions c = search needs
+  abbrev y : List ℕ
+  y = start .args .received .now
 
-slice-aggregate-conditions-2 : tie.Need-slice-aggregate-conditions-2
-slice-aggregate-conditions-2 c = search needs
+  -- the values and the points, with room behind them
+  abbrev us : List ℕ
+  us = c .conditions .last .1 .1 .1 .1 .1 .1 .0
 
-conditions-requires : tie.Need-conditions-requires
-conditions-requires c κs = search needs
+  abbrev ps : List ℕ
+  ps = c .conditions .last .1 .1 .1 .1 .1 .1 .1 .0
 
-array-share-prefix-us : tie.Need-array-share-prefix-us
-array-share-prefix-us c = omega (arith, few (c .before .before), c .before .before .conditions .kept)
+  abbrev n : ℕ
+  n = c .conditions .result
 
-slice-aggregate-all-zero : tie.Need-slice-aggregate-all-zero
-slice-aggregate-all-zero c = sym (length-take-le _ (c .before .before .before .conditions .last .1 .1 .1 .1 .1 .0) (omega (arith, few (c .before .before .before), c .before .before .before .conditions .kept)))
+  few : n ≤ 380
+  few = omega (arith, c .conditions .ensures .0, most-points xs d ks (start .pre .0 .counts))
 
-all-zero-requires : tie.Need-all-zero-requires
-all-zero-requires c κs = search needs
+  values-room : n ≤ length us
+  values-room = omega (arith, few, c .conditions .kept)
 
-store-requires : tie.Need-store-requires
-store-requires c κs = search needs
+  points-room : n ≤ length ps
+  points-room = omega (arith, few, c .conditions .kept)
 
-clear-requires : tie.Need-clear-requires
-clear-requires c κs = search needs
+  points : take n ps ≡ reducedPoints xs ks
+  points = take-lay (reducedPoints xs ks) (replicate 384 0) (c .conditions .ensures .2) (sym (c .conditions .ensures .0)) (omega (arith, few))
 
-same-length : tie.Need-same-length
-same-length c = search needs
+  values : take n us ≡ reducedValues d xs ks y
+  values = take-lay (reducedValues d xs ks y) (replicate 384 0) (c .conditions .ensures .1)
+      (length-values d (start .pre .0 .proper .field) xs ks y (start .pre .0 .received .count) ∙ sym (c .conditions .ensures .0))
+      (omega (arith, few))
 
-same-length-2 : tie.Need-same-length-2
-same-length-2 c = search needs
-
+-- a code array is its own answer
 returns : tie.Need-returns
 returns c = λ lent.
-    let p = c .before .before .before .before .before .before .before .before .before .before .before .before .before .before .before .before .before .before .before .before .before .before .pre in
-    let a = c .before .before .before .before .before .before .before .before .before .before .before .before .before .before .before .before .before .before .before .before .before .before .args in
-    let zeros = all-reduced (a .degree) (p .0 .proper .field) (a .points .now) (a .lengths .now) (a .received .now) (rw (values (c .before .before .before .before .before .before .before .before .before .before .before .before .before)) at (c .before .before .before .before .before .before .before .before .before .all-zero .ensures .0 (c .before .before .before .before .before .before .before .before .if1 .taken))) in
-    let array = take-lay (a .received .now) (a .array .now) (c .before .before .before .before .before .before .store .ensures) (p .0 .received .count) (omega (arith, p .0 .counts .cells, p .1 .1 .1)) in
-    let flags = zeros-front (length (a .points .now)) (a .flags .now) (c .before .before .clear .ensures) (omega (arith, p .0 .counts .most-columns, p .1 .1 .2)) in
-    subst (Corrects (code (c .before .before .before .before .before .before .before .before .before .before .before .before .before .before .before .before .before .before .before .before .before .before)) (a .received .now) (a .limit) 0) (ap₂ buffers (sym array) (sym flags)) (code-ends (p .0 .proper) (p .0 .received) zeros (a .limit) lent)
-
-array-share-prefix-us-2 : tie.Need-array-share-prefix-us-2
-array-share-prefix-us-2 c = omega (arith, few (c .before .before .before .before .before), c .before .before .before .before .before .conditions .kept)
-
-slice-aggregate-locate : tie.Need-slice-aggregate-locate
-slice-aggregate-locate c = sym (length-take-le _ (c .before .before .before .before .before .before .conditions .last .1 .1 .1 .1 .1 .0) (omega (arith, few (c .before .before .before .before .before .before), c .before .before .before .before .before .before .conditions .kept)))
-
-array-share-prefix-xs : tie.Need-array-share-prefix-xs
-array-share-prefix-xs c = omega (arith, few (c .before .before .before .before .before .before), c .before .before .before .before .before .before .conditions .kept)
-
-slice-aggregate-locate-2 : tie.Need-slice-aggregate-locate-2
-slice-aggregate-locate-2 c = sym (length-take-le _ (c .before .before .before .before .before .before .before .conditions .last .1 .1 .1 .1 .1 .1 .0) (omega (arith, few (c .before .before .before .before .before .before .before), c .before .before .before .before .before .before .before .conditions .kept)))
+    let o = c .before .before .before .before .before .before .before .before .before .before .before .before .before in
+    let zero = c .before .before .before .before .before .before .before .before .before in
+    let p = start o .pre in
+    let a = start o .args in
+    let zeros = all-reduced (d o) (p .0 .proper .field) (xs o) (ks o) (y o)
+    (rw (values o) at (zero .all-zero .ensures .0 (c .before .before .before .before .before .before .before .before .if1 .taken))) in
+    let array = take-lay (y o) (a .array .now) (c .before .before .before .before .before .before .store .ensures) (p .0 .received .count)
+    (omega (arith, p .0 .counts .cells, p .1 .1 .0 .1)) in
+    let flags = zeros-front (length (xs o)) (a .flags .now) (c .before .before .clear .ensures)
+    (omega (arith, p .0 .counts .most-columns, p .1 .1 .0 .2)) in
+    subst (Corrects (code (start o)) (y o) (a .limit) 0) (ap₂ buffers (sym array) (sym flags))
+    (code-ends (p .0 .proper) (p .0 .received) zeros (a .limit) lent)
 
 locate-requires : tie.Need-locate-requires
-locate-requires c κs = let p = c .before .before .before .before .before .before .before .before .before .before .before .before .before .before .before .before .before .before .before .pre in
-    (p .0, (p .1 .0, ((values (c .before .before .before .before .before .before .before .before .before .before), points (c .before .before .before .before .before .before .before .before .before .before)), p .1 .1)))
-
-same-length-3 : tie.Need-same-length-3
-same-length-3 c = search needs
-
-same-length-4 : tie.Need-same-length-4
-same-length-4 c = search needs
-
-same-length-5 : tie.Need-same-length-5
-same-length-5 c = search needs
+locate-requires c κs =
+    let o = c .before .before .before .before .before .before .before .before .before .before in
+    let p = start o .pre in
+    (p .0, (p .1 .0, ((values o, points o), p .1 .1 .0)))
 
 returns-2 : tie.Need-returns-2
 returns-2 c = λ lent.
-    let p = c .before .before .before .before .before .before .before .before .before .before .before .before .before .before .before .before .before .before .before .before .before .before .before .before .before .before .pre in
-    let a = c .before .before .before .before .before .before .before .before .before .before .before .before .before .before .before .before .before .before .before .before .before .before .before .before .before .before .args in
-    subst (λ (o : Outcome). Ends (code (c .before .before .before .before .before .before .before .before .before .before .before .before .before .before .before .before .before .before .before .before .before .before .before .before .before .before)) (a .received .now) (a .limit) lent (o .0) (o .1)) (c .before .before .before .before .before .before .locate .ensures lent) (model-ends (p .0 .proper) (p .0 .received) (a .limit) (p .1 .0 .0) lent)
+    let o = c .before .before .before .before .before .before .before .before .before .before .before .before .before .before .before .before .before in
+    let p = start o .pre in
+    let a = start o .args in
+    subst (λ (r : Outcome). Ends (code (start o)) (y o) (a .limit) lent (r .0) (r .1)) (c .before .before .before .before .before .before .locate .ensures lent)
+    (model-ends (p .0 .proper) (p .0 .received) (a .limit) (p .1 .0 .0) lent)
 
 pub end-spec : {M : Type 1} → statement M
-end-spec =
-    tie.close
-    (tie.spec
-    slice-aggregate-conditions
-    slice-aggregate-conditions-2
-    conditions-requires
-    array-share-prefix-us
-    slice-aggregate-all-zero
-    all-zero-requires
-    store-requires
-    clear-requires
-    same-length
-    same-length-2
+end-spec = tie.close (tie.spec
+    (λ c. search needs)
+    (λ c. search needs)
+    (λ c κs. search needs)
+    (λ c. values-room (c .before .before))
+    (λ c. let o = c .before .before .before in sym (length-take-le (n o) (us o) (values-room o)))
+    (λ c κs. search needs)
+    (λ c κs. search needs)
+    (λ c κs. search needs)
+    (λ c. search needs)
+    (λ c. search needs)
     returns
-    array-share-prefix-us-2
-    slice-aggregate-locate
-    array-share-prefix-xs
-    slice-aggregate-locate-2
+    (λ c. values-room (c .before .before .before .before .before))
+    (λ c. let o = c .before .before .before .before .before .before in sym (length-take-le (n o) (us o) (values-room o)))
+    (λ c. points-room (c .before .before .before .before .before .before))
+    (λ c. let o = c .before .before .before .before .before .before .before in sym (length-take-le (n o) (ps o) (points-room o)))
     locate-requires
-    same-length-3
-    same-length-4
-    same-length-5
+    (λ c. search needs)
+    (λ c. search needs)
+    (λ c. search needs)
     returns-2)

@@ -38,7 +38,7 @@ use Rattle.codes.specs.Factors.{Description, descriptionOf}
 use Rattle.joint.specs.Promises.{buffers}
 use Rattle.tray.specs.declared.Answer.{Answer}
 use Rattle.tray.specs.Promises.{trayChecks}
-use Rattle.tray.specs.Working.{opened, Lies, Marked}
+use Rattle.tray.specs.Working.{Opened, Lies, Marked}
 use Rattle.tray.proofs.Again.{LentAgain, lends-again, comes-back}
 use Rattle.tray.proofs.Answer as Answers
 use Rattle.tray.proofs.decode_mark as mark
@@ -143,7 +143,7 @@ module _ {M : Type 1} (𝓤 : URA M) (H : Heap 𝓤) (A : Atoms 𝓤) (W : Given
       abbrev pub OutMark : Item 𝓤
       OutMark = raw (Mark 𝓤 H A at-mem run .pre to-mark) ⊛ Shareds ⊛ KeptMark
 
-      asks-mark : Lies (D .code) i (x₃ .now) (buffers l₅ l₆)
+      asks-mark : Lies D τ i (x₃ .now) (buffers l₅ l₆) l₇
           → ent 𝓤 (sep 𝓤 (mean 𝓤 H A MarkTokens) (sem 𝓤 H A (owns (usize ∷ u32 ∷ ShrSlice (named 0) κ₀ u8 ∷ ShrSlice (named 1) κ₁ u8
           ∷ ShrSlice (named 2) κ₂ u8 ∷ u32 ∷ ShrSlice (named 3) κ₃ u8 ∷ MutSlice (named 4) (p .ν₅ ∷ []) u8
           ∷ MutSlice (named 5) (p .ν₆ ∷ []) u8 ∷ MutSlice (named 6) (p .ν₇ ∷ []) u8 ∷ []) mark-args mark-vals)))
@@ -160,7 +160,7 @@ module _ {M : Type 1} (𝓤 : URA M) (H : Heap 𝓤) (A : Atoms 𝓤) (W : Given
 
   module _ (d-fits : d < 2 ^ 32) (τ-fits : τ < 2 ^ 32) (i : ℕ) (l₅ l₆ l₇ : List ℕ) (e₅ : length l₅ ≡ length (x₅ .now))
       (e₆ : length l₆ ≡ length (x₆ .now)) (e₇ : length l₇ ≡ length (x₇ .now)) where
-    pub lends-mark : (i-fits : i < 2 ^ 64) → Lies (D .code) i (x₃ .now) (buffers l₅ l₆)
+    pub lends-mark : (i-fits : i < 2 ^ 64) → Lies D τ i (x₃ .now) (buffers l₅ l₆) l₇
         → ent 𝓤 (sep 𝓤 (mean 𝓤 H A Tokens) (sep 𝓤 (mean 𝓤 H A Shareds) (mean 𝓤 H A (Muts l₅ l₆ l₇))))
         (mean 𝓤 H A (later (some (λ (p : Names). OutMark p i l₅ l₆ l₇))))
     lends-mark i-fits lies =
@@ -339,7 +339,7 @@ module _ {M : Type 1} (𝓤 : URA M) (H : Heap 𝓤) (A : Atoms 𝓤) (W : Given
   -- what `open` ensures
   abbrev Opens : ℕ → List ℕ → Type 0
   Opens k w = ((y a f : List ℕ) → length y ≡ length (x₃ .now) → length a ≡ length (x₅ .now) → length f ≡ length (x₆ .now)
-      → k ≡ first (trayChecks D τ (length (x₄ .now)) y a f (x₇ .now))) × (w ≡ opened k (x₇ .now))
+      → k ≡ first (trayChecks D τ (length (x₄ .now)) y a f (x₇ .now))) × Opened (D .code) k (x₇ .now) w
 
   abbrev pub BackOpen : (r : Val) (z : ℕ × List ℕ) → Item 𝓤
   BackOpen r z = given (Opens (z .0) (z .1) × (length (z .1) ≡ length (x₇ .now)))

@@ -1,4 +1,4 @@
--- `work_struck` decodes the quotient, and on `corrected` alone has its answer multiplied back; with factors of one there is nothing
+-- `decode_struck` decodes the quotient, and on `corrected` alone has its answer multiplied back; with factors of one there is nothing
 -- to divide.
 -- Assumes nothing.
 use mathlib.Core.Path.{_≡_, sym, _∙_, subst}
@@ -19,8 +19,8 @@ use Rattle.joint.specs.Working.{ReadyLost}
 use Rattle.joint.proofs.Lost.{corrected-array}
 use Rattle.joint.proofs.Struck.{each-one-struck}
 use borrow.Author.Needs.{needs}
-use Rattle.joint.proofs.work_struck.Statement.{statement}
-use Rattle.joint.proofs.work_struck.Tie as tie
+use Rattle.joint.proofs.decode_struck.Statement.{statement}
+use Rattle.joint.proofs.decode_struck.Tie as tie
 
 module _ (start : tie.Start) where
   abbrev D : Description
@@ -36,7 +36,7 @@ module _ (start : tie.Start) where
   ready = start .pre .0 .0
 
   factors : Factors D
-  factors = start .pre .1 .1 .0
+  factors = start .pre .1 .1 .1 .0
 
   abbrev lent : Buffers
   lent = buffers (start .args .answer .now) (start .args .flags .now)
@@ -50,19 +50,17 @@ module _ (start : tie.Start) where
 returns : tie.Need-returns
 returns c =
     let w = c .before .before .before .before .before .before in
-    let t = w .before .before .before .before in
-    let o = t .before .before .before .before .before .before .before .before .before in
-    let r = ready o in (
-      each-one-struck (D o) (r .proper) (factors o) (o .pre .1 .1 .1 (t .if1 .taken)) (r .received) (Table o)
-          (λ n b h. corrected-array (D o .code) (L o) (r .proper) h) (w .work-plain .result)
-          (buffers (w .work-plain .last .1 .1 .1 .1 .1 .1 .0) (w .work-plain .last .1 .1 .1 .1 .1 .1 .1 .0)) (w .work-plain .ensures .0),
-      w .work-plain .ensures .1,
-    )
+    let t = c .before .before .before .before .before .before .before .before .before .before in
+    let o = t .before .before .before .before .before .before .before .before .before .before in
+    let r = ready o in
+    each-one-struck (D o) (r .proper) (factors o) (o .pre .1 .1 .1 .1 (t .if1 .taken)) (r .received) (Table o)
+    (λ n b h. corrected-array (D o .code) (L o) (r .proper) h) (w .work-lost .result)
+    (buffers (w .work-lost .last .1 .1 .1 .1 .1 .1 .1 .1 .0) (w .work-lost .last .1 .1 .1 .1 .1 .1 .1 .1 .1 .0)) (w .work-lost .ensures)
 
 -- where the array is divided
 module _ (c : tie.After-divide) where
   abbrev asked : tie.Start
-  asked = c .before .before .before .before .before .before .before .before .before .before .before
+  asked = c .before .before .before .before .before .before .before .before .before .before .before .before
 
   abbrev quotient : List ℕ
   quotient = take (length (y asked)) (c .divide .last .1 .1 .1 .1 .0)
@@ -77,25 +75,25 @@ module _ (c : tie.After-divide) where
   same : length quotient ≡ length (y asked)
   same = quotient-array .count ∙ sym (ready asked .received .count)
 
-work-plain-requires-2 : tie.Need-work-plain-requires-2
-work-plain-requires-2 c κs =
+work-lost-requires-2 : tie.Need-work-lost-requires-2
+work-lost-requires-2 c κs =
     let d = c .before .before .before .before .before in
     let s = asked d in
     let r = ready s in (
       (record { counts = r .counts; proper = r .proper; received = quotient-array d; remain = r .remain }, s .pre .0 .1),
-      (s .pre .1 .0 .0 ∙ sym (same d), s .pre .1 .0 .1),
+      ((s .pre .1 .0 .0 ∙ sym (same d), s .pre .1 .0 .1), s .pre .1 .1 .0),
     )
 
 -- where the quotient is decoded
-module _ (c : tie.After-work-plain2) where
+module _ (c : tie.After-work-lost2) where
   abbrev parted : tie.After-divide
   parted = c .before .before .before .before .before .before
 
   abbrev answer : Buffers
-  answer = buffers (c .work-plain2 .last .1 .1 .1 .1 .1 .1 .0) (c .work-plain2 .last .1 .1 .1 .1 .1 .1 .1 .0)
+  answer = buffers (c .work-lost2 .last .1 .1 .1 .1 .1 .1 .1 .1 .0) (c .work-lost2 .last .1 .1 .1 .1 .1 .1 .1 .1 .1 .0)
 
-  ends : Table (asked parted) (divided (D (asked parted)) (y (asked parted))) (c .work-plain2 .result) answer
-  ends = subst (λ (z : List ℕ). Table (asked parted) z (c .work-plain2 .result) answer) (is-quotient parted) (c .work-plain2 .ensures .0)
+  ends : Table (asked parted) (divided (D (asked parted)) (y (asked parted))) (c .work-lost2 .result) answer
+  ends = subst (λ (z : List ℕ). Table (asked parted) z (c .work-lost2 .result) answer) (is-quotient parted) (c .work-lost2 .ensures)
 
 strike-requires : tie.Need-strike-requires
 strike-requires c κs w is =
@@ -108,21 +106,19 @@ strike-requires c κs w is =
 returns-2 : tie.Need-returns-2
 returns-2 c =
     let k = c .before .before in
-    let d = k .before .before .before .before .before .before .before .before in (
-      record { answer = answer d; ends = ends d; back = k .strike .ensures (answer d .flags) },
-      d .work-plain2 .ensures .1,
-    )
+    let d = c .before .before .before .before .before .before .before .before .before .before in
+    record { answer = answer d; ends = ends d; back = k .strike .ensures (answer d .flags) }
 
-pub work-struck-spec : {M : Type 1} → statement M
-work-struck-spec = tie.close (tie.spec
-    (λ c κs. search needs)
+pub decode-struck-spec : {M : Type 1} → statement M
+decode-struck-spec = tie.close (tie.spec
+    (λ c κs. let p = c .before .before .before .before .before .before .before .before .before .before .before .before .before .pre in (p .0, (p .1 .0, p .1 .1 .0)))
     (λ c. search needs) (λ c. search needs) (λ c. search needs)
     returns
     (λ c. search needs)
-    (λ c κs. let o = c .before .before .before .before .before .before .before .before .before .before in (striking {D = D o} (ready o .counts) (factors o) (ready o .received), room o))
+    (λ c κs. let o = c .before .before .before .before .before .before .before .before .before .before .before in (striking {D = D o} (ready o .counts) (factors o) (ready o .received), room o))
     (λ c. let d = c .before in omega (arith, d .divide .kept .1 .1 .1 .1 .0, room (asked d)))
     (λ c. sym (same (c .before .before)))
-    work-plain-requires-2
+    work-lost-requires-2
     strike-requires
     (λ c. search needs) (λ c. search needs) (λ c. search needs)
     returns-2)
