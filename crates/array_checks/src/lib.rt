@@ -134,7 +134,8 @@ fn bad_factors(degree: u32, factors: &[u8], ones: bool) -> bool
 fn known_refusal(degree: u32, points: &[u8], factors: &[u8], ones: bool) -> u8
     requires { ⌜ badDegree degree ≡ false ⌝ }
     requires { ⌜ (ones ≡ true → All (λ (f : ℕ). f ≡ 1) (now factors)) ⌝ }
-    ensures { λ r. ⌜ r ≡ first ((6 when badPoints degree (now (points .entry))) ∷ (23 when badFactors degree (now (factors .entry))) ∷ []) ⌝ }
+    ensures { λ r. ⌜ r ≡ first ((6 when badPoints degree (now (points .entry)))
+        ∷ (23 when badFactors degree (now (factors .entry))) ∷ []) ⌝ }
 {
     if refusal::bad_points(degree, points) {
         return 6;
@@ -148,7 +149,8 @@ fn known_refusal(degree: u32, points: &[u8], factors: &[u8], ones: bool) -> u8
 // For the crates above: the first of the checks 6 and 23 that applies, 0 where none does.
 pub fn columns_refusal(degree: u32, points: &[u8], factors: &[u8]) -> u8
     requires { ⌜ badDegree degree ≡ false ⌝ }
-    ensures { λ r. ⌜ r ≡ first ((6 when badPoints degree (now (points .entry))) ∷ (23 when badFactors degree (now (factors .entry))) ∷ []) ⌝ }
+    ensures { λ r. ⌜ r ≡ first ((6 when badPoints degree (now (points .entry)))
+        ∷ (23 when badFactors degree (now (factors .entry))) ∷ []) ⌝ }
 {
     known_refusal(degree, points, factors, all_ones(factors))
 }
@@ -250,7 +252,8 @@ pub fn read_refusal(
     buffers_refusal(degree, lengths, points, factors, room, array.len(), array)
 }
 
-// The first of the checks 5, 6, 23 and 7 of decoding that applies, where arrays have so many cells; 0 where none does. Of the buffers for the answer, the flags and the working space the checks read the lengths alone.
+// The first of the checks 5, 6, 23 and 7 of decoding that applies, where arrays have so many cells; 0 where none does. Of the buffers for
+// the answer, the flags and the working space the checks read the lengths alone.
 fn lent_refusal(
     cells: usize,
     degree: u32,

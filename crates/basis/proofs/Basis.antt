@@ -29,9 +29,11 @@ use native.Mathlib.Omega.{arith}
 use Rattle.field.specs.Arithmetic.{Arithmetic}
 use Rattle.field.proofs.Laws.{Field}
 use Rattle.poly.specs.Poly.{All, Zero}
-use Rattle.basis.proofs.Vector.{mix, Lead, shift, times-gone, at, Below, at-mix, at-zero, at-in, zero-at, lead-below, lead-or-zero, take-off, up, mix-zero, below-pred, lead-up, lead-mix, lead-shift}
+use Rattle.basis.proofs.Vector.{mix, Lead, shift, times-gone, at, Below, at-mix, at-zero, at-in, zero-at, lead-below}
+use Rattle.basis.proofs.Vector.{lead-or-zero, take-off, up, mix-zero, below-pred, lead-up, lead-mix, lead-shift}
 use Rattle.poly.proofs.Ring.{times-zero, plus-zero, ring, plus-cancel, plus-self, zero-plus}
-use Rattle.basis.proofs.Scan.{Any, any-all, all-both, lowest, IfFound, all-map, any-map, all-weaken, NoBetter, lowest-passed, lowest-fails}
+use Rattle.basis.proofs.Scan.{Any, any-all, all-both, lowest, IfFound, all-map, any-map, all-weaken, NoBetter, lowest-passed}
+use Rattle.basis.proofs.Scan.{lowest-fails}
 
 -- ---- Spaces of vectors at a stride s, linear conditions on them, and bases by leads.
 
@@ -154,7 +156,12 @@ module _ {K : Type 0} (A : Arithmetic K) {s : ℕ} (𝓢 : Space A s) where
 module _ {K : Type 0} (A : Arithmetic K) (𝓕 : Field A) {s : ℕ} (𝓢 : Space A s) (C : Form K) (lawful : Lawful 𝓢 C) where
   of-zero : (v : List K) → 𝓢 .has v → Zero A v → C .of v ≡ A .zero
   of-zero v h z =
-      cc (lawful .of-mix (A .one) v v h h, mix-zero A 𝓕 (A .one) v z, 𝓕 .one-times (C .of v) (lawful .of-symbol v h), plus-self A 𝓕 (C .of v))
+      cc (
+        lawful .of-mix (A .one) v v h h,
+        mix-zero A 𝓕 (A .one) v z,
+        𝓕 .one-times (C .of v) (lawful .of-symbol v h),
+        plus-self A 𝓕 (C .of v),
+      )
 
   of-up : (k : ℕ) (v : List K) → 𝓢 .has v → C .of v ≡ A .zero → C .of (up A s k v) ≡ A .zero
   unfolding up
@@ -259,7 +266,8 @@ module _ {K : Type 0} (A : Arithmetic K) (𝓕 : Field A) (same : Discrete K) {s
       module _ (es : List (Entry K)) (basis : Basis 𝓢 es) (low : All (λ (e : Entry K). e .lead < p .lead → C .of (e .vec) ≡ A .zero) es)
           (v : List K) (m : ℕ) (hv : kernel A 𝓕 𝓢 C lawful .has v) (lv : Lead A v m)
         where
-          -- a solution with the pivot's lead, less a multiple of the pivot, is lower, so that the condition is zero on it: and then on the pivot
+          -- a solution with the pivot's lead, less a multiple of the pivot, is lower, so that the condition is zero on it: and
+          -- then on the pivot
           not-pivot : m ≡ p .lead → ⊥
           not-pivot at-p =
               let q : List K = p .vec in
@@ -267,8 +275,10 @@ module _ {K : Type 0} (A : Arithmetic K) (𝓕 : Field A) (same : Discrete K) {s
               let lq : Lead A q m = rw at-p (pivot .leads) in
               let (c, _, meets, below) = take-off A 𝓕 v q m (𝓢 .symbols v (hv .0)) (𝓢 .symbols q hq) lv lq in
               let zw : C .of (mix A c v q) ≡ A .zero = lower (mix A c v q) (𝓢 .mixed c v q (hv .0) hq) below in
-              let zq : A .times c (C .of q) ≡ A .zero = cc (zw, lawful .of-mix c v q (hv .0) hq, hv .1, zero-plus A 𝓕 (A .times c (C .of q))) in
-              lv .nonzero (sym meets ∙ times-gone A 𝓕 (C .of q) c (at A q m) (lawful .of-symbol q hq) nonzero zq (at-in A 𝓕 q (𝓢 .symbols q hq) m))
+              let zq : A .times c (C .of q) ≡ A .zero =
+              cc (zw, lawful .of-mix c v q (hv .0) hq, hv .1, zero-plus A 𝓕 (A .times c (C .of q))) in
+              let symbol = at-in A 𝓕 q (𝓢 .symbols q hq) m in
+              lv .nonzero (sym meets ∙ times-gone A 𝓕 (C .of q) c (at A q m) (lawful .of-symbol q hq) nonzero zq symbol)
             where
               lower : (w : List K) → 𝓢 .has w → Below A w m → C .of w ≡ A .zero
               lower w hw b = descent A 𝓕 𝓢 C lawful es basis (p .lead) low m w (omega arith) hw b

@@ -17,7 +17,8 @@
 use mathlib.Core.Path.{_≡_, refl, sym, _∙_, ap}
 use mathlib.Core.List.{List, [], _∷_, _++_, map}
 use Prim.Native.Nat.{ℕ, zero, suc, _+_, _*_, _/_, _%_, _≤_, _<_}
-use native.Mathlib.Nat.{zero-add, suc-add, zero-mul, suc-mul, le-dest, le-of-suc-le-suc, mod-lt, mul-le-mul-right, zero-lt-suc, div-add-mod', suc-inj, add-zero, add-suc}
+use native.Mathlib.Nat.{zero-add, suc-add, zero-mul, suc-mul, le-dest, le-of-suc-le-suc, mod-lt, mul-le-mul-right, zero-lt-suc}
+use native.Mathlib.Nat.{div-add-mod', suc-inj, add-zero, add-suc}
 use native.Mathlib.Omega.{arith}
 use lib.ListN.{length, getD, length-append, length-map, List·getD-map, List·getD-eq-default}
 use Rattle.field.specs.Arithmetic.{Arithmetic}
@@ -150,7 +151,8 @@ module _ {K : Type 0} (A : Arithmetic K) where
       let ih = weave-length r t E (map later Ns) (length-map Ns later ∙ n) (suc-inj e) in
       omega (arith, length-append (map first Ns) (weave t E (map later Ns)), length-map Ns first, suc-mul t (suc r))
 
-  pub weave-below : (r t : ℕ) (E : List K) (Ns : List (List K)) → length Ns ≡ r → length E ≡ suc t → Below A (weave t E Ns) (suc (t * suc r))
+  pub weave-below : (r t : ℕ) (E : List K) (Ns : List (List K)) → length Ns ≡ r → length E ≡ suc t
+      → Below A (weave t E Ns) (suc (t * suc r))
   weave-below r t E Ns n e i le = List·getD-eq-default (weave t E Ns) (A .zero) (rw (weave-length r t E Ns n e) le)
 
   pub weave-in : Field A → (t : ℕ) (E : List K) (Ns : List (List K)) → All (A .In) E
@@ -169,7 +171,8 @@ module _ {K : Type 0} (A : Arithmetic K) where
   every-over r k [] w = rw zero-add
   every-over r k (h ∷ hs) w = rw suc-add (every-over r k hs w)
 
-  every-inside : (r j k : ℕ) (hs w : List K) → j < length hs → k + length hs ≡ r + suc j → every r j (hs ++ w) ≡ getD hs j (A .zero) ∷ every r k w
+  every-inside : (r j k : ℕ) (hs w : List K) → j < length hs → k + length hs ≡ r + suc j
+      → every r j (hs ++ w) ≡ getD hs j (A .zero) ∷ every r k w
   unfolding every
   every-inside r j k [] w lt e = absurd (omega arith)
   every-inside r zero k (h ∷ hs) w lt e =
@@ -253,9 +256,12 @@ module _ {K : Type 0} (A : Arithmetic K) (𝓕 : Field A) where
   form-lawful r c lt =
       record {
         of-symbol =
-            λ v h. 𝓕 .plus-in _ _ (value-in A 𝓕 (every r (suc (c .row)) v) (c .point) (every-in A 𝓕 r (suc (c .row)) v h)) (𝓕 .times-in _ _);
+            λ v h. 𝓕 .plus-in _ _ (value-in A 𝓕 (every r (suc (c .row)) v) (c .point) (every-in A 𝓕 r (suc (c .row)) v h))
+            (𝓕 .times-in _ _);
         of-mix = λ a v w hv hw. simp (every-mix, value-mix) (mix-step _ _ _ _ _ _);
-        of-shift = λ v h. simp (every-shift A 𝓕 r (suc (c .row)) v lt, every-shift A 𝓕 r 0 v (omega arith), value-shift) (shift-step _ _ _ _);
+        of-shift =
+            λ v h. simp (every-shift A 𝓕 r (suc (c .row)) v lt, every-shift A 𝓕 r 0 v (omega arith), value-shift)
+            (shift-step _ _ _ _);
       }
 
 -- ---- Locators of rows, and the interleaved vectors that stand for them.
@@ -393,7 +399,8 @@ module _ {K : Type 0} (A : Arithmetic K) (𝓕 : Field A) where
           let z : value A E (c .0) ≡ A .zero = value-zero A 𝓕 E (c .0) (λ i _. at-zero A 𝓕 E none i) in
           cc (of-form r j c v h, value-N j (c .0), z, times-zero A 𝓕 (c .1))
 
-      plain-parts : (j : ℕ) (rows : List (Row K)) → Plain A t rows → Met A r j rows v → (i : ℕ) → i < length rows → Zero A (cut A t (N (j + i)))
+      plain-parts : (j : ℕ) (rows : List (Row K)) → Plain A t rows → Met A r j rows v → (i : ℕ) → i < length rows
+          → Zero A (cut A t (N (j + i)))
       plain-parts j [] plain h i lt = absurd (omega arith)
       plain-parts j (row ∷ rows) plain h zero lt =
           rw add-zero (plain .0 (cut A t (N j)) (N-poly j) (all-weaken _ _ (cut-zero j) row (conditions-first _ j row rows h)))

@@ -117,7 +117,8 @@ module _ {K : Type 0} (A : Arithmetic K) where
 
   module _ (same : Discrete K) (s : ℕ) where
     module _ (x : K) (xs : List K) where
-      -- what becomes of line e where p is the pivot: the pivot is multiplied; to each other line a multiple of the pivot is added, if need be
+      -- what becomes of line e where p is the pivot: the pivot is multiplied; to each other line a multiple of the pivot is
+      -- added, if need be
       unfoldable pub fix-by : (p e : Line K) → Dec (e .lead ≡ p .lead) → Dec (now e ≡ A .zero) → Line K
       fix-by p e (yes h) z =
           record { lead = s + e .lead; locator = mix A x (A .zero ∷ e .locator) (e .locator); values = lifted x xs (later (e .values)) }
@@ -176,10 +177,12 @@ separate-below s l l′ lt high i j e = go (decLt i j) (decLt j i)
         omega arith
 
 module _ {K : Type 0} (A : Arithmetic K) where
-  rows-above : (s n j l : ℕ) (cs : List (Condition K)) → l ≤ j → j + n < s → All (λ (f : Line K). Separate s l (f .lead)) (startRows A n j cs)
+  rows-above : (s n j l : ℕ) (cs : List (Condition K)) → l ≤ j → j + n < s
+      → All (λ (f : Line K). Separate s l (f .lead)) (startRows A n j cs)
   unfolding startRows
   rows-above s zero j l cs le lt = tt
-  rows-above s (suc n) j l cs le lt = (separate-below s l (suc j) (omega arith) (omega arith), rows-above s n (suc j) l cs (omega arith) (omega arith))
+  rows-above s (suc n) j l cs le lt =
+      (separate-below s l (suc j) (omega arith) (omega arith), rows-above s n (suc j) l cs (omega arith) (omega arith))
 
   rows-apart : (s n j : ℕ) (cs : List (Condition K)) → j + n < s → Apart s (startRows A n j cs)
   unfolding startRows
@@ -199,7 +202,8 @@ module _ {K : Type 0} (A : Arithmetic K) where
     fix-by-lead p e (no h) (yes z) = (0, omega arith)
     fix-by-lead p e (no h) (no z) = (0, omega arith)
 
-    fix-separate : (p e f : Line K) → Separate s (e .lead) (f .lead) → Separate s (fix A same s x xs p e .lead) (fix A same s x xs p f .lead)
+    fix-separate : (p e f : Line K) → Separate s (e .lead) (f .lead)
+        → Separate s (fix A same s x xs p e .lead) (fix A same s x xs p f .lead)
     unfolding fix
     fix-separate p e f h =
         let (r, re) = fix-by-lead p e (ℕ-discrete (e .lead) (p .lead)) (same (now A e) (A .zero)) in
@@ -225,12 +229,14 @@ module _ {K : Type 0} (A : Arithmetic K) where
     step-apart es h = step-by-apart es _ h
 
 module _ {K : Type 0} (s : ℕ) (d : Line K) where
-  separate-at : (l : ℕ) (es : List (Line K)) (j : ℕ) → All (λ (f : Line K). Separate s l (f .lead)) es → j < length es → getD es j d .lead ≡ l → ⊥
+  separate-at : (l : ℕ) (es : List (Line K)) (j : ℕ) → All (λ (f : Line K). Separate s l (f .lead)) es → j < length es
+      → getD es j d .lead ≡ l → ⊥
   separate-at l [] j h lt e = omega arith
   separate-at l (f ∷ es) zero h lt e = h .0 0 0 (omega arith)
   separate-at l (f ∷ es) (suc j) h lt e = separate-at l es j (h .1) (omega arith) e
 
-  pub apart-leads : (es : List (Line K)) → Apart s es → (i j : ℕ) → i < length es → j < length es → getD es i d .lead ≡ getD es j d .lead → i ≡ j
+  pub apart-leads : (es : List (Line K)) → Apart s es → (i j : ℕ) → i < length es → j < length es
+      → getD es i d .lead ≡ getD es j d .lead → i ≡ j
   apart-leads [] h i j li lj e = absurd (omega arith)
   apart-leads (f ∷ es) h zero zero li lj e = refl
   apart-leads (f ∷ es) h zero (suc j) li lj e = absurd (separate-at (f .lead) es j (h .0) (omega arith) (sym e))
@@ -334,7 +340,8 @@ module _ {L M : Type 0} (f : L → M) (lead : M → ℕ) {P : M → Type 0} (tes
   unfolding lowest
   lowest-map [] best = refl
   lowest-map (e ∷ es) best =
-      ap (λ (o : Option M). lowest lead test o (map f es)) (better-map best e (test′ e)) ∙ lowest-map es (better lead′ test′ best e (test′ e))
+      ap (λ (o : Option M). lowest lead test o (map f es)) (better-map best e (test′ e))
+      ∙ lowest-map es (better lead′ test′ best e (test′ e))
 
 module _ {K : Type 0} (A : Arithmetic K) (s : ℕ) where
   pub record Part (part : List K → List K) : Type 0 where
@@ -394,7 +401,10 @@ module _ {K : Type 0} (A : Arithmetic K) (𝓕 : Field A) (same : Discrete K) {s
     unfolding fix steps.fix
     fix-lines p hp [] led = refl
     fix-lines p hp (e ∷ es) led =
-        cc (fix-by-line p e (ℕ-discrete (e .lead) (p .lead)) (same (C .of (e .vec)) (A .zero)) hp (led .0 .within), fix-lines p hp es (led .1))
+        cc (
+          fix-by-line p e (ℕ-discrete (e .lead) (p .lead)) (same (C .of (e .vec)) (A .zero)) hp (led .0 .within),
+          fix-lines p hp es (led .1),
+        )
 
     keep-lines : (es : List (Entry K)) → map keep (map (line part (C ∷ Cs)) es) ≡ map (line part Cs) es
     unfolding keep

@@ -134,7 +134,8 @@ module _ {L : Type 0} (lead : L → ℕ) (P : L → Type 0) (test : (e : L) → 
   unfolding lowest
   lowest-passed [] best = tt
   lowest-passed (e ∷ es) best =
-      (lowest-keeps es (better lead test best e (test e)) e (better-self best e (test e)), lowest-passed es (better lead test best e (test e)))
+      let next : Option L = better lead test best e (test e) in
+      (lowest-keeps es next e (better-self best e (test e)), lowest-passed es next)
 
   module _ (Q : L → Type 0) where
     -- an element with Q that fails the test

@@ -32,12 +32,17 @@ use lib.ListN.{length, length-map}
 use Rattle.field.specs.Arithmetic.{Arithmetic}
 use Rattle.field.proofs.Laws.{Field}
 use Rattle.poly.specs.Poly.{All, value, Zero, scale}
-use Rattle.basis.proofs.Lines.{Condition, Line, unit, start, startRows, line, line-path, Row, conditions, cut, solve, locatorOf, run-lines, at-cut, multiple-cut, zero-of-cut, step-by, step, run, least, another, size}
+use Rattle.basis.proofs.Lines.{Condition, Line, unit, start, startRows, line, line-path, Row, conditions, cut, solve}
+use Rattle.basis.proofs.Lines.{locatorOf, run-lines, at-cut, multiple-cut, zero-of-cut, step-by, step, run, least, another, size}
 use Rattle.poly.proofs.Ring.{ring}
-use Rattle.basis.proofs.Scan.{Any, all-weaken, all-each, all-map, all-of-map, IfFound, NoBetter, lowest-passed, none-found, found-lowest, found}
+use Rattle.basis.proofs.Scan.{Any, all-weaken, all-each, all-map, all-of-map, IfFound, NoBetter, lowest-passed, none-found}
+use Rattle.basis.proofs.Scan.{found-lowest, found}
 use Rattle.basis.proofs.Vector.{at, Lead, shift, shift-in, lead-shift, Below, mix, at-zero, zero-at, below-mix}
-use Rattle.basis.proofs.Basis.{Form, Entry, Reaches, Led, Basis, Space, Lawful, kernels, to-kernels, of-kernels, run-basis, no-lower, multiples, not-multiple}
-use Rattle.basis.proofs.Interleaved.{every, form, vectors, every-first-below, form-lawful, conditions-below, Locates, Plain, Met, StandsFor, locator-of, plain-zero, every-mix, every-zero, part-every, conditions-values, vector-of}
+use Rattle.basis.proofs.Basis.{Form, Entry, Reaches, Led, Basis, Space, Lawful, kernels, to-kernels, of-kernels, run-basis}
+use Rattle.basis.proofs.Basis.{no-lower, multiples, not-multiple}
+use Rattle.basis.proofs.Interleaved.{every, form, vectors, every-first-below, form-lawful, conditions-below, Locates, Plain}
+use Rattle.basis.proofs.Interleaved.{Met, StandsFor, locator-of, plain-zero, every-mix, every-zero, part-every}
+use Rattle.basis.proofs.Interleaved.{conditions-values, vector-of}
 use Rattle.basis.proofs.Basis as steps
 
 -- ---- The start of the solver: unit vectors, and the lines of the table that stand for them.
@@ -59,7 +64,10 @@ module _ {K : Type 0} (A : Arithmetic K) (𝓕 : Field A) where
   unfolding places
   places-led s zero j = tt
   places-led s (suc n) j =
-      (record { within = shift-in A 𝓕 j (A .one ∷ []) (𝓕 .one-in, tt); leads = rw add-zero at (lead-shift A 𝓕 j one-lead) }, places-led s n (suc j))
+      (led, places-led s n (suc j))
+    where
+      led : Led (vectors A 𝓕 s) (record { vec = shift A j (A .one ∷ []); lead = j })
+      led = record { within = shift-in A 𝓕 j (A .one ∷ []) (𝓕 .one-in, tt); leads = rw add-zero at (lead-shift A 𝓕 j one-lead) }
 
   places-reach : (s n j k c m : ℕ) → j ≤ c → c < j + n → m ≡ k * s + c → Any (Reaches s m) (places A n j)
   unfolding places
@@ -116,8 +124,10 @@ module _ {K : Type 0} (A : Arithmetic K) (𝓕 : Field A) where
   unfolding places startRows
   start-rows r zero j cs le = refl
   start-rows r (suc n) j cs le =
-      let values = values-agree r (shift A (suc j) (A .one ∷ [])) (λ (c : Condition K). unit A (c .row) j) cs (all-each _ (λ c. form-unit r j c (omega arith)) cs) in
-      ap₂ (λ (e : Line K) (es : List (Line K)). e ∷ es) (line-path (suc j) (every-unit r j (omega arith)) values) (start-rows r n (suc j) cs (omega arith))
+      let values = values-agree r (shift A (suc j) (A .one ∷ [])) (λ (c : Condition K). unit A (c .row) j) cs
+      (all-each _ (λ c. form-unit r j c (omega arith)) cs) in
+      ap₂ (λ (e : Line K) (es : List (Line K)). e ∷ es) (line-path (suc j) (every-unit r j (omega arith)) values)
+      (start-rows r n (suc j) cs (omega arith))
 
   pub start-lines : (r : ℕ) (cs : List (Condition K)) → All (λ (c : Condition K). A .In (c .value)) cs
       → map (line (every r 0) (map (form A r) cs)) (places A (suc r) 0) ≡ start A r cs
@@ -138,7 +148,8 @@ module _ {K : Type 0} (A : Arithmetic K) (rows : List (Row K)) where
 module _ {K : Type 0} (A : Arithmetic K) (𝓕 : Field A) (rows : List (Row K)) where
   pub forms-lawful : All (Lawful (vectors A 𝓕 (stride rows))) (forms A rows)
   forms-lawful =
-      all-map _ _ (form A (length rows)) (form-lawful A 𝓕 (length rows)) (conditions 0 rows) (conditions-below (length rows) 0 rows (omega arith))
+      all-map _ _ (form A (length rows)) (form-lawful A 𝓕 (length rows)) (conditions 0 rows)
+      (conditions-below (length rows) 0 rows (omega arith))
 
   abbrev pub solutions : Space A (stride rows)
   solutions = kernels A 𝓕 (vectors A 𝓕 (stride rows)) (forms A rows) forms-lawful
@@ -187,7 +198,8 @@ module _ {K : Type 0} (A : Arithmetic K) (rows : List (Row K)) (t : ℕ) where
   -- where e and f have different leads that size t allows, the locator of e is no multiple of that of f
   abbrev pub NotMultiple : Line K → Line K → Type 0
   NotMultiple e f =
-      e .lead ≤ t * stride rows → f .lead ≤ t * stride rows → (e .lead ≡ f .lead → ⊥) → (c : K) → locatorOf A t e ≡ scale A c (locatorOf A t f) → ⊥
+      e .lead ≤ t * stride rows → f .lead ≤ t * stride rows → (e .lead ≡ f .lead → ⊥)
+      → (c : K) → locatorOf A t e ≡ scale A c (locatorOf A t f) → ⊥
 
 pub record Alone {K : Type 0} (rows : List (Row K)) (t : ℕ) (es : List (Line K)) (g : Line K) : Type 0 where
   pub lowest : All (λ (e : Line K). g .lead ≤ e .lead) es
@@ -207,7 +219,8 @@ module _ {K : Type 0} (A : Arithmetic K) (𝓕 : Field A) (same : Discrete K) (r
       run-basis A 𝓕 same (zero-lt-suc (length rows)) (vectors A 𝓕 (stride rows)) (forms A rows) (forms-lawful A 𝓕 rows)
       (places A (stride rows) 0) (start-basis A 𝓕 (length rows))
 
-  form-points : (r : ℕ) (cs : List (Condition K)) → map (λ (C : Form K). C .factor) (map (form A r) cs) ≡ map (λ (c : Condition K). c .point) cs
+  form-points : (r : ℕ) (cs : List (Condition K))
+      → map (λ (C : Form K). C .factor) (map (form A r) cs) ≡ map (λ (c : Condition K). c .point) cs
   unfolding form
   form-points r [] = refl
   form-points r (c ∷ cs) = ap (λ (l : List K). c .point ∷ l) (form-points r cs)
@@ -254,7 +267,8 @@ module _ {K : Type 0} (A : Arithmetic K) (𝓕 : Field A) (same : Discrete K) (r
               let none : Zero A E = zero-at A 𝓕 E (λ i _. sym (same-at i) ∙ at-zero A 𝓕 (cut A (suc t) E) z i) in
               led .leads .nonzero (at-zero A 𝓕 (e .vec) (no-locator A 𝓕 rows t plain (e .vec) (led .within) small none) (e .lead))
 
-      pub all-multiples : All (λ (g : Line K). Alone rows t (solve A same rows) g → AllMultiples A rows t (locatorOf A t g)) (solve A same rows)
+      pub all-multiples : All (λ (g : Line K). Alone rows t (solve A same rows) g → AllMultiples A rows t (locatorOf A t g))
+          (solve A same rows)
       all-multiples = to-lines _ multiple
         where
           multiple : (g : Entry K) → Led (solutions A 𝓕 rows) g → Alone rows t (solve A same rows) (lineOf A rows g)
@@ -307,7 +321,8 @@ size-least r m t lt = omega (arith, size-near r m, mul-le-mul-right (suc r) lt, 
 not-above : (l m : ℕ) → (l < m → ⊥) → m ≤ l
 not-above l m h = omega arith
 
-another-passed : {K : Type 0} (m : ℕ) (es : List (Line K)) → All (NoBetter (λ (e : Line K). e .lead) (λ (e : Line K). e .lead ≡ m) (another m es)) es
+another-passed : {K : Type 0} (m : ℕ) (es : List (Line K))
+    → All (NoBetter (λ (e : Line K). e .lead) (λ (e : Line K). e .lead ≡ m) (another m es)) es
 unfolding another
 another-passed m es = lowest-passed _ _ (λ e. ℕ-discrete (e .lead) m) es none
 
@@ -378,7 +393,8 @@ module _ {K : Type 0} (A : Arithmetic K) (𝓕 : Field A) (same : Discrete K) (r
         least-size =
             record {
               below =
-                  λ t′ lt. none-below A 𝓕 same rows symbols t′ (all-weaken _ _ (λ e h. above t′ lt (e .lead) h) (solve A same rows) least-lowest);
+                  λ t′ lt. none-below A 𝓕 same rows symbols t′
+                  (all-weaken _ _ (λ e h. above t′ lt (e .lead) h) (solve A same rows) least-lowest);
               locates = of-least _ (lines-locate A 𝓕 same rows symbols t) low;
               nonzero = λ plain. of-least _ (lines-nonzero A 𝓕 same rows symbols t plain) low;
             }

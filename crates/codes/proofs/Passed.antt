@@ -122,7 +122,8 @@ right-length n l e = eqb-true (length l) n (not-false _ e)
 pub is-right : (n : ℕ) (l : List ℕ) → length l ≡ n → wrongLength n l ≡ false
 is-right n l e = ap not (eq-eqb (length l) n e)
 
-pub factors-of : (D : Description) → wrongLength (columns (D .code)) (D .factors) ≡ false → badFactors (D .code .degree) (D .factors) ≡ false
+pub factors-of : (D : Description) → wrongLength (columns (D .code)) (D .factors) ≡ false
+    → badFactors (D .code .degree) (D .factors) ≡ false
     → Factors D
 factors-of D l e = record { count = right-length _ (D .factors) l; symbols = factors-test (D .code .degree) (D .factors) .0 e }
 
@@ -182,7 +183,8 @@ arrays D y a f w ds e =
     let l₄ = neither _ (wrongLength (columns (D .code)) (D .factors)) .0 (p .buffers) in
     let l₃ = neither _ (ltb (length w) spaceBytes) .0 (l₄ .0) in
     let l₂ = neither _ (wrongLength (columns (D .code)) f) .0 (l₃ .0) in
-    let l₁ = neither (wrongLength (rows (D .code) * columns (D .code)) y) (wrongLength (rows (D .code) * columns (D .code)) a) .0 (l₂ .0) in (
+    let l₁ = neither (wrongLength (rows (D .code) * columns (D .code)) y) (wrongLength (rows (D .code) * columns (D .code)) a) .0
+    (l₂ .0) in (
       record {
         counts = p .counts;
         proper = p .proper;

@@ -45,7 +45,8 @@ module _ (c : Code) where
       ((5 when b) ∷ six ∷ rest) tt
       (λ e. ap (λ (x : Bool). first ((5 when x) ∷ six ∷ twenty-three ∷ rest)) five
       ∙ same-behind ((5 when b) ∷ six ∷ []) (twenty-three ∷ rest) rest tt
-      (λ q. miss 23 _ rest (ones-pass (c .degree) (field (c .degree) (counts-of c e refl .degree)) (ones (columns c)) (each-one (columns c)))))
+      (λ q. miss 23 _ rest (ones-pass (c .degree) (field (c .degree) (counts-of c e refl .degree)) (ones (columns c))
+      (each-one (columns c)))))
 
   pub ones-buffers : (m a s : List ℕ) (ds : List Check)
       → first (codeChecks c ++ bufferChecks (plain c) m a s ++ ds) ≡ first (plainBuffers m a s ds)

@@ -23,8 +23,11 @@ unchecked c = isIn (columns c) (c .lengths)
 -- '3: count of points is not 1 to 96 (desk: 1 to 16)'
 abbrev pub shapeChecks : (most : ℕ) → Code → List Check
 shapeChecks most c =
-    (1 when badDegree (c .degree)) ∷ (2 when outside 1 4 (rows c)) ∷ (3 when outside 1 most (columns c))
-    ∷ (4 when someOutside 1 (columns c) (c .lengths)) ∷ (18 when unchecked c) ∷ []
+    (1 when badDegree (c .degree))
+    ∷ (2 when outside 1 4 (rows c))
+    ∷ (3 when outside 1 most (columns c))
+    ∷ (4 when someOutside 1 (columns c) (c .lengths))
+    ∷ (18 when unchecked c) ∷ []
 
 abbrev pub codeChecks : Code → List Check
 codeChecks c = shapeChecks 96 c
@@ -72,7 +75,9 @@ decodeChecks D τ y a f w = arrayChecks D y a f w ++ (8 when ltb (jointLimit (D 
 -- 02, 2026-03: '16, a lost column is not below n or is named twice; 17, fewer remaining columns than the largest k; both after 7
 -- and before 8'; 'joint and safe limit are worked out over those'
 abbrev pub remainingChecks : Code → ℕ → List ℕ → List Check
-remainingChecks c τ L = (16 when badColumns (columns c) L) ∷ (17 when ltb (columns (core c L)) (largest (c .lengths)))
+remainingChecks c τ L =
+    (16 when badColumns (columns c) L)
+    ∷ (17 when ltb (columns (core c L)) (largest (c .lengths)))
     ∷ (8 when ltb (jointLimit (core c L)) τ) ∷ []
 
 abbrev pub lostChecks : Description → ℕ → List ℕ → List ℕ → List ℕ → List ℕ → List ℕ → List Check

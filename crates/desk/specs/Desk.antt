@@ -84,7 +84,10 @@ placed d i s = withArray d (withColumn (d .columns) i s (d .array))
 
 -- 'Putting a column takes its number and r symbols (checks 14, 5, 7)'; '14: column number is not below n'; '5: … a desk column r'
 abbrev pub putChecks : Desk → ℕ → List ℕ → List Check
-putChecks d i s = (14 when leb (d .columns) i) ∷ (5 when wrongLength (d .rows) s) ∷ (7 when someOutsideField (d .degree) s) ∷ []
+putChecks d i s =
+    (14 when leb (d .columns) i)
+    ∷ (5 when wrongLength (d .rows) s)
+    ∷ (7 when someOutsideField (d .degree) s) ∷ []
 
 -- 'A refused call leaves the desk as it was'
 abbrev pub Puts : Desk → ℕ → List ℕ → Put → Type 0

@@ -149,7 +149,8 @@ module _ {c : Code} (p : Proper c) {y : List ℕ} (received : IsArray c y) (τ :
         detail = refl;
       }
 
-    pub safe-exactly : (e : Ending) (lent left : Buffers) → Ends c y τ lent e left → ((w : ℕ) × (e ≡ Corrected w)) ↔ Near (CodeArray c) (wrongCount c y) τ
+    pub safe-exactly : (e : Ending) (lent left : Buffers) → Ends c y τ lent e left
+        → ((w : ℕ) × (e ≡ Corrected w)) ↔ Near (CodeArray c) (wrongCount c y) τ
     safe-exactly e lent left h = (to, from)
       where
         to : (w : ℕ) × (e ≡ Corrected w) → Near (CodeArray c) (wrongCount c y) τ

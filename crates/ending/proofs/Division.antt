@@ -29,7 +29,11 @@ use Rattle.ending.proofs.Rows.{poly-product, fits-unique, fits-product,
 -- of two statements at each column, each or else R: both or else R
 each : (R P Q : ℕ → Type 0) (n : ℕ)
     → (((i : ℕ) → i < n → R i ⊎ P i) × ((i : ℕ) → i < n → R i ⊎ Q i)) ↔ ((i : ℕ) → i < n → R i ⊎ (P i × Q i))
-each R P Q n = (λ h i q. both i (h .0 i q) (h .1 i q), λ h. (λ i q. ⊎-elim inl (λ g. inr (g .0)) (h i q), λ i q. ⊎-elim inl (λ g. inr (g .1)) (h i q)))
+each R P Q n = (
+  λ h i q. both i (h .0 i q) (h .1 i q),
+  λ h.
+      (λ i q. ⊎-elim inl (λ g. inr (g .0)) (h i q), λ i q. ⊎-elim inl (λ g. inr (g .1)) (h i q)),
+)
   where
     both : (i : ℕ) → R i ⊎ P i → R i ⊎ Q i → R i ⊎ (P i × Q i)
     both i (inl r) b = inl r
@@ -81,7 +85,8 @@ module _ (A : Arithmetic ℕ) (𝓕 : Field A) where
       let g : Poly A k f = poly-take A k m (omega arith) sm in
       let Root : ℕ → Type 0 = λ (i : ℕ). value A E (getD xs i 0) ≡ 𝟎 in
       let Here : ℕ → Type 0 = λ (i : ℕ). getD y i 0 ≡ getD (encodedRows A xs (k ∷ ks) m) i 0 in
-      let There : ℕ → Type 0 = λ (i : ℕ). Agree (length ks) (length xs) i (drop (length xs) y) (drop (length xs) (encodedRows A xs (k ∷ ks) m)) in
+      let There : ℕ → Type 0 = λ (i : ℕ). Agree (length ks) (length xs) i (drop (length xs) y)
+      (drop (length xs) (encodedRows A xs (k ∷ ks) m)) in
       let first = Iff·trans
       (product-fits xs ys E f (w .0 .0) h g)
       (Iff·trans
@@ -163,7 +168,8 @@ module _ {c : Code} (p : Proper c) {y : List ℕ} (received : IsArray c y) where
       let A : Arithmetic ℕ = gf (c .degree) in
       let Root : ℕ → Type 0 = λ (i : ℕ). value A E (getD (c .points) i 0) ≡ 0 in
       Iff·trans
-      (rows-exactly A (p .field) (c .points) t E (c .lengths) y m (p .lengths) h (received .count) (received .symbols) (i .count) (i .symbols))
+      (rows-exactly A (p .field) (c .points) t E (c .lengths) y m (p .lengths) h (received .count) (received .symbols) (i .count)
+      (i .symbols))
       (Iff·trans
       (along Root
       (λ (i : ℕ). Agree (rows c) (columns c) i y (encoded c m))

@@ -97,8 +97,10 @@ module _ {c : Code} (p : Proper c) {y : List ℕ} where
   module _ (received : IsArray c y) {t : ℕ} (small : t ≤ columns c - largest (c .lengths)) (E : List ℕ) where
     pub same-numerators : (h g : Fitted c y t E) → numeratorsOf c y t E h ≡ numeratorsOf c y t E g
     same-numerators h g =
-        one-numerator (gf (c .degree)) (p .field) (c .points) (p .distinct) (p .symbols) t E (c .lengths) y (room p small) (received .count) h g
+        one-numerator (gf (c .degree)) (p .field) (c .points) (p .distinct) (p .symbols) t E (c .lengths) y (room p small)
+        (received .count) h g
 
     pub zero-numerators : Zero (gf (c .degree)) E → (h : Fitted c y t E) → All (Zero (gf (c .degree))) (numeratorsOf c y t E h)
     zero-numerators z h =
-        zero-numerator (gf (c .degree)) (p .field) (c .points) (p .distinct) (p .symbols) t E (c .lengths) y (room p small) (received .count) z h
+        zero-numerator (gf (c .degree)) (p .field) (c .points) (p .distinct) (p .symbols) t E (c .lengths) y (room p small)
+        (received .count) z h

@@ -34,14 +34,16 @@ ending-meant Nothing = refl
 ending-meant (Several t) = refl
 ending-meant (Hollow t) = refl
 
-pub meaning-faithful : (e e′ : Ending) → numberOf (meaning e) ≡ numberOf (meaning e′) → detailOf (meaning e) ≡ detailOf (meaning e′) → e ≡ e′
+pub meaning-faithful : (e e′ : Ending) → numberOf (meaning e) ≡ numberOf (meaning e′) → detailOf (meaning e) ≡ detailOf (meaning e′)
+    → e ≡ e′
 meaning-faithful e e′ p q = sym (ending-meant e) ∙ ap₂ ending p q ∙ ending-meant e′
 
 same-buffers : {a b : Buffers} → a .array ≡ b .array → a .flags ≡ b .flags → a ≡ b
 same-buffers p q i = record { array = p i; flags = q i }
 
 module _ {c : Code} (p : Proper c) {y : List ℕ} (received : IsArray c y) (τ : ℕ) (limit : τ ≤ jointLimit c) where
-  nearest-same : {w w′ : ℕ} {a b : List ℕ} → Nearest (CodeArray c) (wrongCount c y) τ w a → Nearest (CodeArray c) (wrongCount c y) τ w′ b → a ≡ b
+  nearest-same : {w w′ : ℕ} {a b : List ℕ} → Nearest (CodeArray c) (wrongCount c y) τ w a → Nearest (CodeArray c) (wrongCount c y) τ w′ b
+      → a ≡ b
   nearest-same {w} {w′} {a} {b} h g = go (List-discrete ℕ-discrete a b)
     where
       go : Dec (a ≡ b) → a ≡ b
@@ -63,7 +65,8 @@ module _ {c : Code} (p : Proper c) {y : List ℕ} (received : IsArray c y) (τ :
         same-buffers e (h .flags ∙ ap (flagsOf c y) e ∙ sym (g .flags)),
       )
 
-  same : (e e′ : Ending) (lent left left′ : Buffers) → numberOf (meaning e) ≡ numberOf (meaning e′) → Ends c y τ lent e left → Ends c y τ lent e′ left′
+  same : (e e′ : Ending) (lent left left′ : Buffers) → numberOf (meaning e) ≡ numberOf (meaning e′) → Ends c y τ lent e left
+      → Ends c y τ lent e′ left′
       → (e ≡ e′) × (left ≡ left′)
   same (Refused k) e′ lent left left′ q h g = absurd h
   same (Corrected w) (Refused k) lent left left′ q h g = absurd g

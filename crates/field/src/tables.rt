@@ -9,8 +9,8 @@ ghost use Rattle.field.specs.Working.Doublings.{doublings};
 ghost use Rattle.field.specs.Working.Tables.{IsTable, Powers, Dividing};
 use crate::bits;
 
-// How long a lent table is, whichever the field.
-const LENT: usize = 256;
+// For the crates above: how long a table is, whichever the field.
+pub const LENT: usize = 256;
 
 // For the crates above: a table to be lent, whichever the field.
 pub type Table = [u8; LENT];

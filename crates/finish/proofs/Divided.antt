@@ -1,9 +1,9 @@
 -- The last decision: has the locator as many roots among the points as its size?
 --
 --   roots               the flags of a locator's values at the points are those of its roots
---   marks-are, flags-are, flags-zero    as the code stores the values and the flags
---   few-roots           as many roots as the joint limit allows leave every row its columns
---   fronts-are          and the answer that it fills in
+--   Flagged, flagged    what the code stores: the values and their flags
+--   roots-room          as many roots as the joint limit allows leave every row its columns
+--   fronts-are          the answer that the code fills in
 --   divided-hollow, divided-corrected    what the model decides
 -- Assumes nothing.
 use mathlib.Core.Path.{_≡_, refl, sym, ap, _∙_}
@@ -36,33 +36,37 @@ roots c E = zeros-flags (rootAt c E) (value (gf (c .degree)) E) (c .points) (λ 
 abbrev answered : Code → List ℕ → List ℕ → Buffers
 answered c y E = record { array = filled c y (rootFlags c E); flags = rootFlags c E }
 
-module _ {c : Code} (p : Proper c) (E z f : List ℕ) {ms f′ : List ℕ} (valued : ms ≡ lay 0 (valuesAt (gf (c .degree)) (c .points) E) z)
-    (flagged : f′ ≡ lay 0 (zerosIn (take (columns c) ms)) f) (room : columns c ≤ length z) (room′ : columns c ≤ length f)
-  where
-    pub marks-are : take (columns c) ms ≡ valuesAt (gf (c .degree)) (c .points) E
-    marks-are =
-        take-lay (valuesAt (gf (c .degree)) (c .points) E) z valued (length-values (gf (c .degree)) (p .field) (c .points) E) room
+-- the front of ms holds the values of E at the points, that of fs the flags of its roots
+pub record Flagged (c : Code) (E ms fs : List ℕ) : Type 0 where
+  pub count : length (take (columns c) ms) ≡ columns c
+  pub flags : take (columns c) fs ≡ zerosIn (take (columns c) ms)
+  pub roots : zerosIn (take (columns c) ms) ≡ rootFlags c E
 
-    pub marks-count : length (take (columns c) ms) ≡ columns c
-    marks-count = ap length marks-are ∙ length-values (gf (c .degree)) (p .field) (c .points) E
+pub flagged : {c : Code} → Proper c → (E z f : List ℕ) {ms fs : List ℕ} → ms ≡ lay 0 (valuesAt (gf (c .degree)) (c .points) E) z
+    → fs ≡ lay 0 (zerosIn (take (columns c) ms)) f → columns c ≤ length z → columns c ≤ length f → Flagged c E ms fs
+flagged {c} p E z f {ms} valued laid room room′ =
+    let values : List ℕ = valuesAt (gf (c .degree)) (c .points) E in
+    let size : length values ≡ columns c = length-values (gf (c .degree)) (p .field) (c .points) E in
+    let marks : take (columns c) ms ≡ values = take-lay values z valued size room in
+    let count : length (take (columns c) ms) ≡ columns c = ap length marks ∙ size in
+    record {
+      count = count;
+      flags = take-lay (zerosIn (take (columns c) ms)) f laid (zeros-count (take (columns c) ms) ∙ count) room′;
+      roots = ap zerosIn marks ∙ roots c E;
+    }
 
-    pub flags-zero : take (columns c) f′ ≡ zerosIn (take (columns c) ms)
-    flags-zero = take-lay (zerosIn (take (columns c) ms)) f flagged (zeros-count (take (columns c) ms) ∙ marks-count) room′
+module _ {c : Code} {E ms fs : List ℕ} (k : Flagged c E ms fs) where
+  pub roots-room : Proper c → rootCount c E ≤ jointLimit c → Room (columns c) (total (take (columns c) fs)) (c .lengths)
+  roots-room p h = joint-room p (omega (arith, ap total (k .flags ∙ k .roots)))
 
-    pub zeros-roots : zerosIn (take (columns c) ms) ≡ rootFlags c E
-    zeros-roots = ap zerosIn marks-are ∙ roots c E
-
-    pub roots-room : rootCount c E ≤ jointLimit c → Room (columns c) (total (take (columns c) f′)) (c .lengths)
-    roots-room h = joint-room p (omega (arith, ap total (flags-zero ∙ zeros-roots)))
-
-    pub fronts-are : Counts c → {y : List ℕ} → IsArray c y → (a : List ℕ) {a′ : List ℕ} → a′ ≡ lay 0 (filled c y (take (columns c) f′)) a
-        → length a ≡ 384 → answered c y E ≡ fronts c a′ f′
-    fronts-are h {y} received a is long =
-        let flags : take (columns c) f′ ≡ rootFlags c E = flags-zero ∙ zeros-roots in
-        let count : length (take (columns c) f′) ≡ columns c = ap length flags-zero ∙ zeros-count (take (columns c) ms) ∙ marks-count in
-        let size = rows-length (c .degree) (take (columns c) f′) (c .points) count (c .lengths) y (received .count) in
-        let answer = take-lay (filled c y (take (columns c) f′)) a is size (omega (arith, h .cells)) in
-        λ i. record { array = (ap (filled c y) (sym flags) ∙ sym answer) i; flags = sym flags i }
+  pub fronts-are : Counts c → {y : List ℕ} → IsArray c y → (a : List ℕ) {a′ : List ℕ} → a′ ≡ lay 0 (filled c y (take (columns c) fs)) a
+      → length a ≡ 384 → answered c y E ≡ fronts c a′ fs
+  fronts-are h {y} received a is long =
+      let flags : take (columns c) fs ≡ rootFlags c E = k .flags ∙ k .roots in
+      let count : length (take (columns c) fs) ≡ columns c = ap length (k .flags) ∙ zeros-count (take (columns c) ms) ∙ k .count in
+      let size = rows-length (c .degree) (take (columns c) fs) (c .points) count (c .lengths) y (received .count) in
+      let answer = take-lay (filled c y (take (columns c) fs)) a is size (omega (arith, h .cells)) in
+      λ i. record { array = (ap (filled c y) (sym flags) ∙ sym answer) i; flags = sym flags i }
 
 module _ (c : Code) (y : List ℕ) (lent : Buffers) (t : ℕ) (E : List ℕ) where
   pub divided-hollow : ¬ (rootCount c E ≡ t) → (d : Dec (rootCount c E ≡ t)) → divided c y lent t E d ≡ (Hollow t, lent)

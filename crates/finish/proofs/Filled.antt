@@ -3,9 +3,9 @@
 --   row-is          a row merged with the values at the points whose mark is zero is the model's row
 --   coefficients, newton, row-filled    what the code makes of a row: its Newton coefficients, and the row filled in
 --   rows-length     they are as long as the array
+--   filled-more     a row filled in, laid before the rows that are left
 --   flags-count, wrong-count, enough-right, longest-right, right-points    the flags, the wrong columns, and the right ones
 --                   with their points
---   filled-more     a row filled in, laid before the rows that are left
 -- Assumes nothing.
 use mathlib.Core.Path.{_≡_, refl, sym, ap, _∙_}
 use mathlib.Core.List.{List, [], _∷_, _++_, map}
@@ -21,14 +21,15 @@ use Rattle.field.specs.Arithmetic.{gf}
 use Rattle.field.proofs.Laws.{Field}
 use Rattle.poly.proofs.Forms.{reduce, newtonValue}
 use Rattle.poly.proofs.Differences.{length-reduce, last-round}
-use Rattle.codes.specs.Code.{largest, total}
+use Rattle.codes.specs.Code.{Code, columns, largest, total}
 use Rattle.codes.specs.Lost.{right}
 use Rattle.rows.specs.Working.Rows.{Points}
 use Rattle.codes.proofs.Parts.{all-take, row-length, rest-length}
+use Rattle.codes.proofs.Proper.{Proper}
 use Rattle.codes.proofs.Limits.{Room, room-largest}
 use Rattle.codes.proofs.Right.{all-right, distinct-right}
 use Rattle.ending.proofs.Model.{filledRow, filledIn, filledRows}
-use Rattle.finish.specs.Working.{zerosIn, put, refilled}
+use Rattle.finish.specs.Working.{zerosIn, put, refilled, Marked}
 use Rattle.conditions.proofs.Places.{RowAt, next, row-left, row-size}
 use Rattle.finish.proofs.Marks.{zeros-count, right-count, right-others, distinct-take}
 
@@ -65,8 +66,9 @@ module _ (d : ℕ) where
       → refilled d (take k (right (zerosIn ms) xs)) (right ms xs) (zerosIn ms) ms ys ≡ filledIn (gf d) k (zerosIn ms) xs ys
   unfolding refilled filledIn
   refilled-row k ms xs ys e l h =
-      let size : length (take k (right (zerosIn ms) xs)) ≡ k = length-take-le k (right (zerosIn ms) xs) h in
-      rw size (put-filled k (take k (right (zerosIn ms) xs)) (reduce (gf d) k (take k (right (zerosIn ms) xs)) (take k (right (zerosIn ms) ys))) ms xs ys e l)
+      let gs : List ℕ = take k (right (zerosIn ms) xs) in
+      let size : length gs ≡ k = length-take-le k (right (zerosIn ms) xs) h in
+      rw size (put-filled k gs (reduce (gf d) k gs (take k (right (zerosIn ms) ys))) ms xs ys e l)
 
   -- the same of the rows that the code is lent
   pub row-is : (k : ℕ) (ms xs ys : List ℕ) {gs ws fs : List ℕ} → gs ≡ take k (right fs xs) → ws ≡ right ms xs → fs ≡ zerosIn ms
@@ -82,7 +84,9 @@ module _ (d : ℕ) where
       (few : length gs ≤ length (right fs ys)) (fits : length (right fs ys) ≤ length z)
     where
       first-right : take (length gs) us ≡ take (length gs) (right fs ys)
-      first-right = sym (take-take (length gs) (length (right fs ys)) us few) ∙ ap (take (length gs)) (take-lay (right fs ys) z gathered refl fits)
+      first-right =
+          sym (take-take (length gs) (length (right fs ys)) us few)
+          ∙ ap (take (length gs)) (take-lay (right fs ys) z gathered refl fits)
 
       pub newton : take (length gs) us′ ≡ coefficients gs fs ys
       newton =
@@ -99,8 +103,10 @@ module _ (d : ℕ) where
           let value : ℕ → ℕ = newtonValue (gf d) (length gs) gs (coefficients gs fs ys) in
           let size : length (coefficients gs fs ys) ≡ length gs =
           length-reduce (gf d) 𝓕 (length gs) gs (take (length gs) (right fs ys)) (length-take-le (length gs) (right fs ys) few) in
-          let same : map (newtonValue (gf d) (length (take (length gs) us′)) gs (take (length gs) us′)) ws ≡ map value ws = rw (newton, size) in
-          ap (λ (v : List ℕ). put ms v ys) (take-lay (map value ws) z′ (valued ∙ ap (λ (v : List ℕ). lay 0 v z′) same) (length-map ws value) room)
+          let same : map (newtonValue (gf d) (length (take (length gs) us′)) gs (take (length gs) us′)) ws ≡ map value ws =
+          rw (newton, size) in
+          ap (λ (v : List ℕ). put ms v ys)
+          (take-lay (map value ws) z′ (valued ∙ ap (λ (v : List ℕ). lay 0 v z′) same) (length-map ws value) room)
 
   module _ (fs xs : List ℕ) (e : length fs ≡ length xs) where
     pub rows-length : (ks y : List ℕ) → length y ≡ length ks * length xs → length (filledRows (gf d) fs xs ks y) ≡ length ks * length xs
@@ -134,31 +140,32 @@ module _ (d : ℕ) where
         rw (← drop-drop n at y, whole) (lay-behind at row rest t count is room)
 
 -- columns are wrong where the mark is zero and the flag is not
-module _ (xs ms fs : List ℕ) (is : fs ≡ zerosIn ms) (size : length ms ≡ length xs) where
-  pub flags-count : length fs ≡ length xs
-  flags-count = ap length is ∙ zeros-count ms ∙ size
+module _ {c : Code} {fs ms : List ℕ} (m : Marked c fs ms) where
+  pub flags-count : length fs ≡ columns c
+  flags-count = ap length (m .flags) ∙ zeros-count ms ∙ m .count
 
-  pub wrong-count : total (zerosIn ms) ≡ length (right ms xs)
-  wrong-count = sym (right-count ms xs (sym size))
+  pub wrong-count : total (zerosIn ms) ≡ length (right ms (c .points))
+  wrong-count = sym (right-count ms (c .points) (sym (m .count)))
 
-  pub enough-right : (ks : List ℕ) → Room (length xs) (total fs) ks → (ys : List ℕ) → length ys ≡ length xs → (l : ℕ) → l < length ks
-      → getD ks l 0 ≤ length (right fs ys)
-  enough-right ks r ys e l h =
-      let others : length (right fs ys) + total fs ≡ length ys = rw is (right-others ms ys (e ∙ sym size)) in
-      omega (arith, room-at ks r l h)
+  others : (ys : List ℕ) → length ys ≡ columns c → length (right fs ys) + total fs ≡ length ys
+  others ys e = rw (m .flags) (right-others ms ys (e ∙ sym (m .count)))
+
+  pub enough-right : (ys : List ℕ) → length ys ≡ columns c → (l : ℕ) → l < length (c .lengths)
+      → getD (c .lengths) l 0 ≤ length (right fs ys)
+  enough-right ys e l h = omega (arith, others ys e, room-at (c .lengths) (m .room) l h)
     where
-      room-at : (ks : List ℕ) → Room (length xs) (total fs) ks → (l : ℕ) → l < length ks → getD ks l 0 + total fs ≤ length xs
+      room-at : (ks : List ℕ) → Room (columns c) (total fs) ks → (l : ℕ) → l < length ks → getD ks l 0 + total fs ≤ columns c
       room-at [] r l h = absurd (omega arith)
       room-at (k ∷ ks) r zero h = r .0
       room-at (k ∷ ks) r (suc l) h = room-at ks (r .1) l (omega arith)
 
-  pub longest-right : (ks : List ℕ) → Room (length xs) (total fs) ks → {gs : List ℕ} → gs ≡ right fs xs → largest ks ≤ length gs
-  longest-right ks r good =
-      let others : length (right fs xs) + total fs ≡ length xs = rw is (right-others ms xs (sym size)) in
-      rw good (omega (arith, room-largest (length xs) (total fs) ks r))
+  module _ {gs : List ℕ} (good : gs ≡ right fs (c .points)) where
+    pub longest-right : largest (c .lengths) ≤ length gs
+    longest-right =
+        rw good (omega (arith, others (c .points) refl, room-largest (columns c) (total fs) (c .lengths) (m .room)))
 
-  pub right-points : {d : ℕ} → Points d xs → (k : ℕ) → Points d (take k (right fs xs))
-  right-points {d} p k = record {
-    symbols = all-take (IsSymbol d) k (right fs xs) (all-right (IsSymbol d) fs xs (p .symbols));
-    distinct = distinct-take k (right fs xs) (distinct-right fs xs (p .distinct));
-  }
+    pub right-points : Proper c → (k : ℕ) → Points (c .degree) (take k gs)
+    right-points p k = rw good (record {
+      symbols = all-take (IsSymbol (c .degree)) k (right fs (c .points)) (all-right (IsSymbol (c .degree)) fs (c .points) (p .symbols));
+      distinct = distinct-take k (right fs (c .points)) (distinct-right fs (c .points) (p .distinct));
+    })

@@ -17,7 +17,7 @@ ghost use Rattle.ending.specs.Working.{Ready, mostCells};
 ghost use Rattle.ending.specs.Endings.{Buffers};
 ghost use Rattle.ending.proofs.WrongColumns.{rootCount};
 ghost use Rattle.ending.proofs.Model.{filled, divided};
-ghost use Rattle.finish.specs.Working.{released, flagOf, zerosIn, put, refilled, fronts};
+ghost use Rattle.finish.specs.Working.{released, flagOf, zerosIn, put, refilled, Filling, filledAt, fronts};
 use array_checks::wide;
 use ending::Ending;
 use field::tables::Table;
@@ -32,7 +32,8 @@ fn flag_of(value: u8) -> u8
 // For the crates above: flags the values that are zero; answers how many are.
 pub fn flag_zeros(values: &[u8], flags: &mut [u8]) -> usize
     requires { ⌜ length (now values) ≤ length (now flags) ⌝ }
-    ensures { λ r. ⌜ (r ≡ total (zerosIn (now (values .entry)))) × (now (flags .exit) ≡ lay 0 (zerosIn (now (values .entry))) (now (flags .entry))) ⌝ }
+    ensures { λ r. ⌜ (r ≡ total (zerosIn (now (values .entry))))
+        × (now (flags .exit) ≡ lay 0 (zerosIn (now (values .entry))) (now (flags .entry))) ⌝ }
 {
     let mut count = 0;
     let mut i = 0;
@@ -48,7 +49,8 @@ pub fn flag_zeros(values: &[u8], flags: &mut [u8]) -> usize
 // For the crates above: the entries of a row at the columns whose flag is zero, at the front of s; answers how many there are.
 pub fn gather(flags: &[u8], row: &[u8], s: &mut [u8]) -> usize
     requires { ⌜ (length (now row) ≡ length (now flags)) × (length (now flags) ≤ length (now s)) ⌝ }
-    ensures { λ r. ⌜ (r ≡ length (right (now (flags .entry)) (now (row .entry)))) × (now (s .exit) ≡ lay 0 (right (now (flags .entry)) (now (row .entry))) (now (s .entry))) ⌝ }
+    ensures { λ r. ⌜ (r ≡ length (right (now (flags .entry)) (now (row .entry))))
+        × (now (s .exit) ≡ lay 0 (right (now (flags .entry)) (now (row .entry))) (now (s .entry))) ⌝ }
 {
     let mut j = 0;
     let mut i = 0;
@@ -64,7 +66,8 @@ pub fn gather(flags: &[u8], row: &[u8], s: &mut [u8]) -> usize
 
 // For the crates above: stores the row in s from `at` on, with the next of vs in its place wherever a mark is zero.
 pub fn merge(marks: &[u8], vs: &[u8], row: &[u8], s: &mut [u8], at: usize)
-    requires { ⌜ (total (zerosIn (now marks)) ≤ length (now vs)) × (length (now row) ≡ length (now marks)) × (at + length (now marks) ≤ length (now s)) ⌝ }
+    requires { ⌜ (total (zerosIn (now marks)) ≤ length (now vs)) × (length (now row) ≡ length (now marks))
+        × (at + length (now marks) ≤ length (now s)) ⌝ }
     ensures { λ _. ⌜ now (s .exit) ≡ lay at (put (now (marks .entry)) (now (vs .entry)) (now (row .entry))) (now (s .entry)) ⌝ }
 {
     let mut j = 0;
@@ -95,10 +98,14 @@ fn fill_row(
     at: usize,
 )
     requires { ⌜ (badDegree degree ≡ false) × IsTable degree (now table) × Points degree (now nodes) × All (IsSymbol degree) (now wrong) ⌝ }
-    requires { ⌜ (length (now row) ≡ length (now flags)) × (length (now marks) ≡ length (now flags)) × (length (now flags) ≤ 96) × All (IsSymbol degree) (now row) ⌝ }
+    requires { ⌜ (length (now row) ≡ length (now flags)) × (length (now marks) ≡ length (now flags)) × (length (now flags) ≤ 96)
+        × All (IsSymbol degree) (now row) ⌝ }
     requires { ⌜ (0 < length (now nodes)) × (length (now nodes) ≤ length (right (now flags) (now row))) × (length (now wrong) ≤ 96) ⌝ }
-    requires { ⌜ (total (zerosIn (now marks)) ≡ length (now wrong)) × (at + length (now flags) ≤ length (now s)) × Inverses degree (now nodes) (length (now nodes)) (now ws) ⌝ }
-    ensures { λ _. ⌜ now (s .exit) ≡ lay at (refilled degree (now (nodes .entry)) (now (wrong .entry)) (now (flags .entry)) (now (marks .entry)) (now (row .entry))) (now (s .entry)) ⌝ }
+    requires { ⌜ (total (zerosIn (now marks)) ≡ length (now wrong)) × (at + length (now flags) ≤ length (now s))
+        × Inverses degree (now nodes) (length (now nodes)) (now ws) ⌝ }
+    ensures { λ _. ⌜ now (s .exit)
+        ≡ lay at (refilled degree (now (nodes .entry)) (now (wrong .entry)) (now (flags .entry)) (now (marks .entry)) (now (row .entry)))
+        (now (s .entry)) ⌝ }
 {
     let mut us = [0u8; 112];
     let mut vs = [0u8; 96];
@@ -123,12 +130,12 @@ fn fill_rows(
     received: &[u8],
     s: &mut [u8],
 )
-    requires { ⌜ Ready (codeOf degree (now points) (now lengths)) (now received) ⌝ }
-    requires { ⌜ IsTable degree (now table) × (length (now s) ≡ mostCells) ⌝ }
-    requires { ⌜ (now flags ≡ zerosIn (now marks)) × (length (now marks) ≡ length (now points)) × Room (length (now points)) (total (now flags)) (now lengths) ⌝ }
-    requires { ⌜ (now good ≡ right (now flags) (now points)) × (now wrong ≡ right (now marks) (now points))
-        × Inverses degree (take (largest (now lengths)) (now good)) (largest (now lengths)) (now ws) ⌝ }
-    ensures { λ _. ⌜ now (s .exit) ≡ lay 0 (filled (codeOf degree (now (points .entry)) (now (lengths .entry))) (now (received .entry)) (now (flags .entry))) (now (s .entry)) ⌝ }
+    requires { ⌜ Filling (codeOf degree (now points) (now lengths)) (now table) (now good) (now wrong) (now flags) (now marks)
+        (now received) (now s) ⌝ }
+    requires { ⌜ Inverses degree (take (largest (now lengths)) (now good)) (largest (now lengths)) (now ws) ⌝ }
+    ensures { λ _. ⌜ now (s .exit)
+        ≡ filledAt (codeOf degree (now (points .entry)) (now (lengths .entry))) (now (received .entry)) (now (flags .entry))
+        (now (s .entry)) ⌝ }
 {
     let mut at = 0;
     let mut l = 0;
@@ -164,11 +171,11 @@ fn fill_wrong(
     received: &[u8],
     s: &mut [u8],
 )
-    requires { ⌜ Ready (codeOf degree (now points) (now lengths)) (now received) ⌝ }
-    requires { ⌜ IsTable degree (now table) × (length (now s) ≡ mostCells) ⌝ }
-    requires { ⌜ (now flags ≡ zerosIn (now marks)) × (length (now marks) ≡ length (now points)) × Room (length (now points)) (total (now flags)) (now lengths) ⌝ }
-    requires { ⌜ (now good ≡ right (now flags) (now points)) × (now wrong ≡ right (now marks) (now points)) ⌝ }
-    ensures { λ _. ⌜ now (s .exit) ≡ lay 0 (filled (codeOf degree (now (points .entry)) (now (lengths .entry))) (now (received .entry)) (now (flags .entry))) (now (s .entry)) ⌝ }
+    requires { ⌜ Filling (codeOf degree (now points) (now lengths)) (now table) (now good) (now wrong) (now flags) (now marks)
+        (now received) (now s) ⌝ }
+    ensures { λ _. ⌜ now (s .exit)
+        ≡ filledAt (codeOf degree (now (points .entry)) (now (lengths .entry))) (now (received .entry)) (now (flags .entry))
+        (now (s .entry)) ⌝ }
 {
     let mut ws = [0u8; 9216];
     let k = array_checks::largest(lengths);
@@ -202,8 +209,11 @@ pub fn fill(
 )
     requires { ⌜ Ready (codeOf degree (now points) (now lengths)) (now received) ⌝ }
     requires { ⌜ IsTable degree (now table) × (length (now s) ≡ mostCells) ⌝ }
-    requires { ⌜ (now flags ≡ zerosIn (now marks)) × (length (now marks) ≡ length (now points)) × Room (length (now points)) (total (now flags)) (now lengths) ⌝ }
-    ensures { λ _. ⌜ now (s .exit) ≡ lay 0 (filled (codeOf degree (now (points .entry)) (now (lengths .entry))) (now (received .entry)) (now (flags .entry))) (now (s .entry)) ⌝ }
+    requires { ⌜ (now flags ≡ zerosIn (now marks)) × (length (now marks) ≡ length (now points))
+        × Room (length (now points)) (total (now flags)) (now lengths) ⌝ }
+    ensures { λ _. ⌜ now (s .exit)
+        ≡ lay 0 (filled (codeOf degree (now (points .entry)) (now (lengths .entry))) (now (received .entry)) (now (flags .entry)))
+        (now (s .entry)) ⌝ }
 {
     let mut good = [0u8; 96];
     let mut wrong = [0u8; 96];
@@ -237,12 +247,17 @@ pub fn divide(
 ) -> Ending
     requires { ⌜ Ready (codeOf degree (now points) (now lengths)) (now received) ⌝ }
     requires { ⌜ IsTable degree (now table) ⌝ }
-    requires { ⌜ All (IsSymbol degree) (now locator) × (0 < length (now locator)) × (length (now locator) ≤ suc (jointLimit (codeOf degree (now points) (now lengths)))) ⌝ }
+    requires { ⌜ All (IsSymbol degree) (now locator) × (0 < length (now locator))
+        × (length (now locator) ≤ suc (jointLimit (codeOf degree (now points) (now lengths)))) ⌝ }
     requires { ⌜ (length (now array) ≡ mostCells) × (length (now flags) ≡ 96) ⌝ }
     ensures { λ r. ⌜ ((lent : Buffers) (t : ℕ) → length (now (locator .entry)) ≡ suc t
         → divided (codeOf degree (now (points .entry)) (now (lengths .entry))) (now (received .entry)) lent t (now (locator .entry))
         (ℕ-discrete (rootCount (codeOf degree (now (points .entry)) (now (lengths .entry))) (now (locator .entry))) t)
-        ≡ (r, released r (fronts (codeOf degree (now (points .entry)) (now (lengths .entry))) (now (array .exit)) (now (flags .exit))) lent)) ⌝ }
+        ≡ (
+          r,
+          released r
+              (fronts (codeOf degree (now (points .entry)) (now (lengths .entry))) (now (array .exit)) (now (flags .exit))) lent,
+        )) ⌝ }
 {
     let mut marks = [0u8; 96];
     rows::values(table, degree, points, locator, &mut marks, 0);

@@ -48,7 +48,8 @@ mark-encode D m lent =
     returns-unique meaning (λ (o : Outcome) (b : List ℕ). Encodes D m lent (left o b))
     (λ o o′ b b′ h h′. parts (encodes-unique D m lent (left o b) (left o′ b′) h h′))
 
-pub mark-read : (D : Description) (a lent : List ℕ) {r r′ : ℕ} {b b′ : List ℕ} → Returns meaning (λ (o : Outcome). Reads D a lent (left o b)) r
+pub mark-read : (D : Description) (a lent : List ℕ) {r r′ : ℕ} {b b′ : List ℕ}
+    → Returns meaning (λ (o : Outcome). Reads D a lent (left o b)) r
     → Returns meaning (λ (o : Outcome). Reads D a lent (left o b′)) r′ → (r ≡ r′) × (b ≡ b′)
 mark-read D a lent =
     returns-unique meaning (λ (o : Outcome) (b : List ℕ). Reads D a lent (left o b))

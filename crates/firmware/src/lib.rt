@@ -47,7 +47,8 @@ pub extern "C" fn gren_mark_encode(
     message: &[u8],
     array: &mut [u8],
 ) -> u32
-    ensures { λ r. ⌜ Returns meaning (λ o. Encodes (descriptionOf degree (now (points .entry)) (now (factors .entry)) (now (lengths .entry))) (now (message .entry))
+    ensures { λ r. ⌜ Returns meaning (λ o. Encodes (descriptionOf degree (now (points .entry)) (now (factors .entry))
+        (now (lengths .entry))) (now (message .entry))
         (now (array .entry)) (left o (now (array .exit)))) r ⌝ }
 {
     number(mark::encode(degree, lengths, points, factors, message, array))
@@ -63,7 +64,8 @@ pub extern "C" fn gren_mark_read(
     array: &[u8],
     message: &mut [u8],
 ) -> u32
-    ensures { λ r. ⌜ Returns meaning (λ o. Reads (descriptionOf degree (now (points .entry)) (now (factors .entry)) (now (lengths .entry))) (now (array .entry))
+    ensures { λ r. ⌜ Returns meaning (λ o. Reads (descriptionOf degree (now (points .entry)) (now (factors .entry))
+        (now (lengths .entry))) (now (array .entry))
         (now (message .entry)) (left o (now (message .exit)))) r ⌝ }
 {
     number(mark::read(degree, lengths, points, factors, array, message))

@@ -137,7 +137,8 @@ module _ {q m : ℕ} (p : Passed q m) where
   right-factors = is-right _ (ones (columns (ringCode q m))) (length-replicate (columns (ringCode q m)) 1)
 
   no-bad-factor : Mark.badFactors q (ones (columns (ringCode q m))) ≡ false
-  no-bad-factor = ones-pass q (ring-proper q m (p .size) (p .order) .field) (ones (columns (ringCode q m))) (each-one (columns (ringCode q m)))
+  no-bad-factor = ones-pass q (ring-proper q m (p .size) (p .order) .field) (ones (columns (ringCode q m)))
+      (each-one (columns (ringCode q m)))
 
   -- a message and an array of the right lengths, the symbols s being the input
   buffers-pass : (f a s : List ℕ) → length f ≡ total (ringLengths q m) → length a ≡ q * q * q → All (IsSymbol q) s

@@ -1,6 +1,5 @@
 -- The working space, cleared.
 --
---   zeros-front     what the code makes of the places from 0 on that it writes 0
 --   cleared-by      a working space of which the first 49,152 places were written 0 is cleared
 --   cleared-behind  what stood in these places does not matter
 --   cleared-same    and what stands behind them is all that does
@@ -24,7 +23,7 @@ module _ (n : ℕ) (l : List ℕ) where
     long : length s ≡ length l
     long = ap length is ∙ length-patch 0 (λ k. 0) l n
 
-    pub zeros-front : take n s ≡ replicate n 0
+    zeros-front : take n s ≡ replicate n 0
     zeros-front =
         let size : length (take n s) ≡ n = length-take-le n s (omega (arith, long)) in
         ext-getD 0 (take n s) (replicate n 0) (size ∙ sym (length-replicate n 0))

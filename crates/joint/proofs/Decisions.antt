@@ -198,5 +198,6 @@ module _ {c : Code} {y : List ℕ} {τ C : ℕ} {leads space : List ℕ} {r : �
         → decided c y τ lent ≡ divided c y lent T L (ℕ-discrete (rootCount c L) T)
     reads-alone beyond-it lent =
         decided-alone c y τ lent line first (omega (arith, size-is)) (subst₂ Beyond bound-is next-is beyond-it)
-        ∙ ap (λ (t : ℕ). divided c y lent t (locatorOf (gf (c .degree)) t line) (ℕ-discrete (rootCount c (locatorOf (gf (c .degree)) t line)) t)) (sym size-is)
+        ∙ ap (λ (t : ℕ). divided c y lent t (locatorOf (gf (c .degree)) t line)
+        (ℕ-discrete (rootCount c (locatorOf (gf (c .degree)) t line)) t)) (sym size-is)
         ∙ ap (λ (E : List ℕ). divided c y lent T E (ℕ-discrete (rootCount c E) T)) (sym locator-is)

@@ -1,6 +1,6 @@
 -- Decoding with lost columns: its ends, from those of the remaining columns.
 --
---   rest-ready       what is left of an array is ready to be decoded
+--   whole-ready      with nothing lost an array is ready to be decoded; rest-ready, so is what is left of one
 --   found-ends       whatever it ends as, the remaining columns' decoding ends so
 --   ends-unique      no two distinct ends
 --   twos-merged      the flags, merged from those of the remaining columns; wrong-rest, how many of these are wrong
@@ -8,7 +8,7 @@
 --   corrected-by     so that filling in gives the code array
 --   others-by        any other ending, with the buffers that were lent; corrected-array, that one leaves an array
 --   same-rest        received arrays that agree in the remaining columns end alike
---   none-ends        with nothing lost the table is that of 01
+--   none-ends        with nothing lost the table is that of 01; whole-of, whole-ends, an array is ready as a whole, and ends so
 -- Assumes nothing.
 use mathlib.Core.Path.{_≡_, refl, sym, ap, _∙_, subst, subst₂}
 use mathlib.Core.Logic.{_↔_}
@@ -20,16 +20,19 @@ use native.Mathlib.Omega.{arith}
 use lib.ListN.{length, getD, replicate, length-replicate, getD-replicate}
 use lib.Seq.{ext-getD}
 use Rattle.refusal.specs.Refusal.{isIn}
-use Rattle.codes.specs.Code.{Code, rows, columns, total, IsArray, encoded, flag, flagsFrom, flagsOf, wrongCount, differsAt}
+use Rattle.codes.specs.Code.{Code, rows, columns, total, largest, IsArray, encoded, flag, flagsFrom, flagsOf, wrongCount, differsAt}
+use Rattle.codes.specs.Code.{jointLimit}
 use Rattle.codes.specs.Lost.{lostFlags, right, core, coreOf, wrongAmong, twosAt, flagsLost}
 use Rattle.codes.proofs.Parts.{all-map}
 use Rattle.codes.proofs.Proper.{Proper}
+use Rattle.codes.proofs.Passed.{Counts, largest-most}
 use Rattle.codes.proofs.Limits.{Room, joint-room}
 use Rattle.codes.proofs.Flags.{flags-length, flag-here, flag-right}
 use Rattle.codes.proofs.Columns.{agree-exactly, Agree}
 use Rattle.codes.proofs.Messages.{encoded-array, one-message}
 use Rattle.codes.proofs.Right.{rank, rank-below, core-differs}
-use Rattle.codes.proofs.Lost.{lost-length, core-few, core-proper, core-counts, core-array, encoded-core, full-message, core-none, core-of-none, Remains}
+use Rattle.codes.proofs.Lost.{lost-length, core-few, core-proper, core-counts, core-array, encoded-core, full-message, core-none}
+use Rattle.codes.proofs.Lost.{core-of-none, Remains}
 use Rattle.ending.specs.Working.{Ready}
 use Rattle.ending.specs.Endings.{Buffers, Corrects, Ends}
 use Rattle.ending.specs.declared.Ending.{Ending}
@@ -45,6 +48,20 @@ use Rattle.remaining.proofs.Fronts.{merged-count, fill-count}
 use Rattle.joint.specs.Promises.{buffers}
 use Rattle.joint.specs.Lost.{LostCorrects, LostEnds}
 use Rattle.joint.specs.Working.{ReadyLost}
+
+-- with nothing lost an array is ready to be decoded as it is
+pub whole-ready : {c : Code} {τ : ℕ} {y : List ℕ} → Counts c → Proper c → IsArray c y → τ ≤ jointLimit c → ReadyLost c τ [] y
+whole-ready {c} {τ} counts proper received limit = record {
+  counts = counts;
+  proper = proper;
+  received = received;
+  remain = record {
+    lost = record { below = tt; distinct = tt };
+    enough = subst (λ (d : Code). largest (c .lengths) ≤ columns d) (sym (core-none c))
+        (largest-most (columns c) (c .lengths) (proper .lengths));
+    limit = subst (λ (d : Code). τ ≤ jointLimit d) (sym (core-none c)) limit;
+  };
+}
 
 -- what is left of an array is ready to be decoded
 pub rest-ready : {c : Code} {τ : ℕ} {L y : List ℕ} → ReadyLost c τ L y → Ready (core c L) (coreOf c L y)
@@ -373,3 +390,15 @@ module _ (c : Code) {y : List ℕ} (received : IsArray c y) (τ : ℕ) (lent lef
   none-ends Nothing = rest-none Nothing left
   none-ends (Several t) = rest-none (Several t) left
   none-ends (Hollow t) = rest-none (Hollow t) left
+
+-- so an array of which nothing is lost is ready as a whole, and ends as one
+module _ {c : Code} {τ : ℕ} {L y : List ℕ} (r : ReadyLost c τ L y) (none : [] ≡ L) where
+  pub whole-of : Ready c y × (τ ≤ jointLimit c)
+  whole-of = (
+    record { counts = r .counts; proper = r .proper; received = r .received },
+    subst (λ (k : Code). τ ≤ jointLimit k) (ap (core c) (sym none) ∙ core-none c) (r .remain .limit),
+  )
+
+  pub whole-ends : (lent left : Buffers) (e : Ending) → Ends c y τ lent e left → LostEnds c L y τ lent e left
+  whole-ends lent left e h =
+      subst (λ (L : List ℕ). LostEnds c L y τ lent e left) none (none-ends c (r .received) τ lent left e .1 h)

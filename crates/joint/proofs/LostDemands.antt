@@ -339,5 +339,6 @@ module _ (L : List ℕ) (g : Given) (l : Left) (h : DecodesLost L g l) where
   pub detail-small : detailOf (meaning (l .ending)) < 256
   detail-small = halves.by-number (checksLost L g) (g .lent) (g .space) (EndsAs L g) (never L g) l h
       (λ none d. let q = passed L g none in
-      lost-small (q .0 .array .proper) (q .0 .remain) (quotient L g q) (q .0 .array .counts) (g .lent) (l .ending) (d .0 .answer) (d .0 .ends))
+      lost-small (q .0 .array .proper) (q .0 .remain) (quotient L g q) (q .0 .array .counts) (g .lent) (l .ending) (d .0 .answer)
+      (d .0 .ends))
       (λ j e d. let n = ap (λ (r : Left). detailOf (meaning (r .ending))) d in omega (arith, number-upto L g))

@@ -46,7 +46,8 @@ module _ (c : Code) (τ : ℕ) (y : List ℕ) (lent : Buffers) (space : List ℕ
   WholePlain = Decoding (plainArray c y (lent .array) (lent .flags) space eight) lent space (Ends c y τ lent)
 
   pub ones-decodes : (l : Left) → Decodes (given (plain c) τ y lent space) l ↔ WholePlain l
-  ones-decodes = ones-same c y lent space (checksOf (given (plain c) τ y lent space)) (plainArray c y (lent .array) (lent .flags) space eight)
+  ones-decodes = ones-same c y lent space (checksOf (given (plain c) τ y lent space))
+      (plainArray c y (lent .array) (lent .flags) space eight)
       (ones-array c y (lent .array) (lent .flags) space eight) (λ z. Ends c z τ lent)
       (λ none. let (p, f) = decoding (plain c) τ y (lent .array) (lent .flags) space none in (p .array .proper, p .array .received))
       (λ p w b d. subst (IsArray c) (sym (d .array)) (encoded-array p (d .message)))

@@ -3,7 +3,7 @@ ghost use mathlib.Core.Path.{_≡_};
 ghost use mathlib.Core.Bool.{true, false};
 ghost use mathlib.Core.List.{List};
 ghost use Prim.Native.Nat.{ℕ, suc, _*_, _≤_};
-ghost use lib.ListN.{length};
+ghost use lib.ListN.{length, replicate};
 ghost use Rattle.field.specs.Working.Tables.{IsTable};
 ghost use Rattle.codes.specs.Code.{codeOf, jointLimit};
 ghost use Rattle.basis.proofs.Lines.{Line, another};
@@ -46,9 +46,15 @@ fn decide(
     requires { ⌜ Ready (codeOf degree (now points) (now lengths)) (now received) ⌝ }
     requires { ⌜ (limit ≤ jointLimit (codeOf degree (now points) (now lengths))) × IsTable degree (now table) ⌝ }
     requires { ⌜ (count ≤ 380) × (3840 ≤ length (now space)) × (length (now array) ≡ mostCells) × (length (now flags) ≡ 96) ⌝ }
-    requires { ⌜ HoldsLines degree count (suc (length (now lengths))) count (now leads) (now space) (linesOf (codeOf degree (now points) (now lengths)) (now received)) ⌝ }
-    ensures { λ r. ⌜ ((lent : Buffers) → decided (codeOf degree (now (points .entry)) (now (lengths .entry))) (now (received .entry)) limit lent
-        ≡ (r, released r (fronts (codeOf degree (now (points .entry)) (now (lengths .entry))) (now (array .exit)) (now (flags .exit))) lent)) ⌝ }
+    requires { ⌜ HoldsLines degree count (suc (length (now lengths))) count (now leads) (now space)
+        (linesOf (codeOf degree (now points) (now lengths)) (now received)) ⌝ }
+    ensures { λ r. ⌜ ((lent : Buffers) → decided (codeOf degree (now (points .entry)) (now (lengths .entry)))
+        (now (received .entry)) limit lent
+        ≡ (
+          r,
+          released r (fronts (codeOf degree (now (points .entry)) (now (lengths .entry))) (now (array .exit))
+              (now (flags .exit))) lent,
+        )) ⌝ }
 {
     let lines = lengths.len() + 1;
     let p = solver::scan::least(leads, lines);
@@ -89,10 +95,16 @@ fn locate(
 ) -> Ending
     requires { ⌜ Ready (codeOf degree (now points) (now lengths)) (now received) ⌝ }
     requires { ⌜ (limit ≤ jointLimit (codeOf degree (now points) (now lengths))) × IsTable degree (now table) ⌝ }
-    requires { ⌜ (now us ≡ reducedValues degree (now points) (now lengths) (now received)) × (now xs ≡ reducedPoints (now points) (now lengths)) ⌝ }
+    requires { ⌜ (now us ≡ reducedValues degree (now points) (now lengths) (now received))
+        × (now xs ≡ reducedPoints (now points) (now lengths)) ⌝ }
     requires { ⌜ (3840 ≤ length (now space)) × (length (now array) ≡ mostCells) × (length (now flags) ≡ 96) ⌝ }
-    ensures { λ r. ⌜ ((lent : Buffers) → decided (codeOf degree (now (points .entry)) (now (lengths .entry))) (now (received .entry)) limit lent
-        ≡ (r, released r (fronts (codeOf degree (now (points .entry)) (now (lengths .entry))) (now (array .exit)) (now (flags .exit))) lent)) ⌝ }
+    ensures { λ r. ⌜ ((lent : Buffers) → decided (codeOf degree (now (points .entry)) (now (lengths .entry)))
+        (now (received .entry)) limit lent
+        ≡ (
+          r,
+          released r (fronts (codeOf degree (now (points .entry)) (now (lengths .entry))) (now (array .exit))
+              (now (flags .exit))) lent,
+        )) ⌝ }
 {
     let mut counts = [0usize; 4];
     let mut leads = [0usize; 5];
@@ -122,7 +134,7 @@ fn locate(
 }
 
 // How the decoding of a received array ends, ws being empty or the inverses of its longest row's rounds. A code array is its own
-// answer.
+// answer, and the flags, which come as zeros, are its flags.
 pub(crate) fn end(
     table: &Table,
     degree: u32,
@@ -137,10 +149,12 @@ pub(crate) fn end(
 ) -> Ending
     requires { ⌜ Ready (codeOf degree (now points) (now lengths)) (now received) ⌝ }
     requires { ⌜ (limit ≤ jointLimit (codeOf degree (now points) (now lengths))) × IsTable degree (now table) ⌝ }
-    requires { ⌜ (3840 ≤ length (now space)) × (length (now array) ≡ mostCells) × (length (now flags) ≡ 96) ⌝ }
+    requires { ⌜ (3840 ≤ length (now space)) × (length (now array) ≡ mostCells) × (now flags ≡ replicate 96 0) ⌝ }
     requires { ⌜ MayHave degree (now points) (now lengths) (now ws) ⌝ }
-    ensures { λ r. ⌜ ((lent : Buffers) → Ends (codeOf degree (now (points .entry)) (now (lengths .entry))) (now (received .entry)) limit lent
-        r (released r (fronts (codeOf degree (now (points .entry)) (now (lengths .entry))) (now (array .exit)) (now (flags .exit))) lent)) ⌝ }
+    ensures { λ r. ⌜ ((lent : Buffers) → Ends (codeOf degree (now (points .entry)) (now (lengths .entry)))
+        (now (received .entry)) limit lent
+        r (released r (fronts (codeOf degree (now (points .entry)) (now (lengths .entry))) (now (array .exit))
+        (now (flags .exit))) lent)) ⌝ }
 {
     let mut us = [0u8; 384];
     let mut xs = [0u8; 384];
@@ -156,7 +170,6 @@ pub(crate) fn end(
     );
     if rows::all_zero(&us[..n]) {
         rows::store(received, array, 0);
-        rows::clear(flags, 0, points.len());
         return Ending::Corrected(0);
     }
     locate(

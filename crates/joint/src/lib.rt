@@ -58,19 +58,23 @@ fn work_whole(
     flags: &mut [u8],
     space: &mut [u8],
 ) -> Ending
-    requires { ⌜ Ready (codeOf degree (now points) (now lengths)) (now received) × (limit ≤ jointLimit (codeOf degree (now points) (now lengths))) ⌝ }
-    requires { ⌜ (length (now answer) ≡ length (now received)) × (length (now flags) ≡ length (now points)) × (3840 ≤ length (now space)) ⌝ }
+    requires { ⌜ Ready (codeOf degree (now points) (now lengths)) (now received)
+        × (limit ≤ jointLimit (codeOf degree (now points) (now lengths))) ⌝ }
+    requires { ⌜ (length (now answer) ≡ length (now received)) × (length (now flags) ≡ length (now points))
+        × (3840 ≤ length (now space)) ⌝ }
     requires { ⌜ IsTable degree (now table) × MayHave degree (now points) (now lengths) (now ws) ⌝ }
     ensures { λ r. ⌜ Ends (codeOf degree (now (points .entry)) (now (lengths .entry))) (now (received .entry)) limit
         (buffers (now (answer .entry)) (now (flags .entry))) r (buffers (now (answer .exit)) (now (flags .exit))) ⌝ }
 {
+    let mut held = [0u8; 96];
     let mut wrong = [0u8; 96];
     let mut own = [0u8; 384];
+    bytes::copy(points, &mut held);
     let ending = ends::end(
         table,
         degree,
         lengths,
-        points,
+        &held[..points.len()],
         ws,
         limit,
         received,
@@ -100,9 +104,11 @@ fn decode_rest(
     wrong: &mut [u8],
     space: &mut [u8],
 ) -> Ending
-    requires { ⌜ ReadyLost (codeOf degree (now points) (now lengths)) limit (now lost) (now received) × (3840 ≤ length (now space)) × (length (now wrong) ≡ 96) ⌝ }
+    requires { ⌜ ReadyLost (codeOf degree (now points) (now lengths)) limit (now lost) (now received) × (3840 ≤ length (now space))
+        × (length (now wrong) ≡ 96) ⌝ }
     requires { ⌜ IsTable degree (now table) ⌝ }
-    ensures { λ r. ⌜ RestEnds (codeOf degree (now (points .entry)) (now (lengths .entry))) (now (lost .entry)) (now (received .entry)) limit r
+    ensures { λ r. ⌜ RestEnds (codeOf degree (now (points .entry)) (now (lengths .entry))) (now (lost .entry))
+        (now (received .entry)) limit r
         (take (columns (core (codeOf degree (now (points .entry)) (now (lengths .entry))) (now (lost .entry)))) (now (wrong .exit)))
         × (length (now (wrong .exit)) ≡ 96) ⌝ }
 {
@@ -236,11 +242,26 @@ pub fn decode_struck(
     requires { ⌜ IsTable degree (now table) × MayHave degree (now points) (now lengths) (now ws) ⌝ }
     requires { ⌜ Factors (descriptionOf degree (now points) (now factors) (now lengths)) ⌝ }
     requires { ⌜ (ones ≡ true → All (λ (f : ℕ). f ≡ 1) (now factors)) ⌝ }
-    ensures { λ r. ⌜ StruckEnds (descriptionOf degree (now (points .entry)) (now (factors .entry)) (now (lengths .entry))) (now (lost .entry))
+    ensures { λ r. ⌜ StruckEnds (descriptionOf degree (now (points .entry)) (now (factors .entry)) (now (lengths .entry)))
+        (now (lost .entry))
         (now (received .entry)) limit (buffers (now (answer .entry)) (now (flags .entry))) r
         (buffers (now (answer .exit)) (now (flags .exit))) ⌝ }
 {
     if ones {
+        if lost.len() == 0 {
+            return work_whole(
+                table,
+                degree,
+                lengths,
+                points,
+                ws,
+                limit,
+                received,
+                answer,
+                flags,
+                space,
+            );
+        }
         return work_lost(
             table,
             degree,
@@ -272,46 +293,6 @@ pub fn decode_struck(
     );
     strike(ending, degree, factors, lengths.len(), answer);
     ending
-}
-
-// Decodes, for a call that passed its checks. The field's table is worked out here, once.
-fn work(
-    degree: u32,
-    lengths: &[u8],
-    points: &[u8],
-    factors: &[u8],
-    ones: bool,
-    limit: u32,
-    lost: &[u8],
-    received: &[u8],
-    answer: &mut [u8],
-    flags: &mut [u8],
-    space: &mut [u8],
-) -> Ending
-    requires { ⌜ ReadyLost (codeOf degree (now points) (now lengths)) limit (now lost) (now received) × (3840 ≤ length (now space)) ⌝ }
-    requires { ⌜ (length (now answer) ≡ length (now received)) × (length (now flags) ≡ length (now points)) ⌝ }
-    requires { ⌜ Factors (descriptionOf degree (now points) (now factors) (now lengths)) ⌝ }
-    requires { ⌜ (ones ≡ true → All (λ (f : ℕ). f ≡ 1) (now factors)) ⌝ }
-    ensures { λ r. ⌜ StruckEnds (descriptionOf degree (now (points .entry)) (now (factors .entry)) (now (lengths .entry))) (now (lost .entry))
-        (now (received .entry)) limit (buffers (now (answer .entry)) (now (flags .entry))) r
-        (buffers (now (answer .exit)) (now (flags .exit))) ⌝ }
-{
-    let table = tables::lend(degree);
-    decode_struck(
-        &table,
-        degree,
-        lengths,
-        points,
-        &received[..0],
-        factors,
-        ones,
-        limit,
-        lost,
-        received,
-        answer,
-        flags,
-        space,
-    )
 }
 
 // Decodes a received array of which some columns are lost: refusals 1 to 7, 18 behind 4 and 23 behind 6, 16, 17 and 8, which touch
@@ -351,10 +332,13 @@ pub fn decode_lost(
     if k != 0 {
         return Ending::Refused(k);
     }
-    let ending = work(
+    let table = tables::lend(degree);
+    let ending = decode_struck(
+        &table,
         degree,
         lengths,
         points,
+        &received[..0],
         factors,
         ones,
         limit,

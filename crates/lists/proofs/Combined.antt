@@ -3,21 +3,27 @@
 --   combined-times     combined (doublings d c) s = s·c
 --   four-combined, combined-zero    four bits more; no bit
 --   combined-none      entries that are zero combine to nothing
+--   short, products    doublings that the code holds end with the degree; a loop that combines them writes products
 -- Assumes nothing.
 use mathlib.Core.Path.{_≡_, refl, sym, ap, ap₂, _∙_}
+use mathlib.Core.Bool.{false}
 use mathlib.Core.List.{List}
 use Prim.Native.Nat.{ℕ, zero, suc, _+_, _*_, _/_, _%_, _^_, _<_}
 use native.Mathlib.Nat.{zero-mul, mul-zero, mul-one, mul-assoc, mul-comm, pow-suc, add-zero, zero-add}
 use native.Mathlib.Omega.{arith}
 use lib.ListN.{getD}
 use lib.Arith.{lt-one}
+use Rattle.patch.specs.Patch.{patch}
+use Rattle.patch.proofs.Laws.{patch-cong}
+use Rattle.refusal.specs.Refusal.{badDegree}
 use Rattle.field.specs.Symbols.{plus, times}
 use Rattle.field.specs.Working.Doublings.{doublingsFrom}
 use Rattle.field.proofs.Sums.{plus-comm, plus-self, plus-shift, top, Additive, additive-zero, additive-bit}
 use Rattle.field.proofs.Products.{plus-times}
 use Rattle.field.proofs.BitByBit.{half-below}
-use Rattle.field.proofs.Doublings.{doublings-at}
-use Rattle.lists.specs.Working.Combining.{combinedFrom, fourCombined}
+use Rattle.field.proofs.Instance.{tested}
+use Rattle.field.proofs.Doublings.{doublings-at, doublings-short}
+use Rattle.lists.specs.Working.Combining.{combinedFrom, combined, fourCombined, Short}
 
 -- four bits more
 pub four-combined : (r : List ℕ) (i n s : ℕ) {v higher : ℕ}
@@ -67,3 +73,13 @@ combined-times d c s h =
     combined-from (λ x. times d x c) (plus-times d c) (doublingsFrom d c 0 8) 0 8 s
     (λ k k<n. rw (zero-add k) (doublings-at d c 0 8 k k<n ∙ ap (λ (x : ℕ). times d (2 ^ x) c) (zero-add k))) h
     ∙ ap (λ (x : ℕ). times d x c) (mul-one s)
+
+pub short : (d c : ℕ) {r : List ℕ} → badDegree d ≡ false → r ≡ doublingsFrom d c 0 8 → Short d r
+short d c good doubled = rw doubled (doublings-short d (tested d good) c)
+
+-- g says what a loop makes of the combined symbol, and read which symbol it combines
+pub products : (d c : ℕ) {r : List ℕ} → r ≡ doublingsFrom d c 0 8 → (g : ℕ → ℕ → ℕ) (read : ℕ → ℕ) → ((k : ℕ) → read k < 256)
+    → (at n : ℕ) (l : List ℕ) {s : List ℕ} → s ≡ patch at n (λ k. g k (combined r (read k))) l
+    → s ≡ patch at n (λ k. g k (times d (read k) c)) l
+products d c doubled g read small at n l is =
+    is ∙ patch-cong at n _ _ l (λ k h. ap (g k) (rw doubled (combined-times d c (read k) (small k))))

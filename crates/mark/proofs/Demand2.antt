@@ -97,7 +97,8 @@ module _ (D : Description) (m lent a : List ℕ) (written : Encodes D m lent (do
       let i : IsArray (D .code) a = rw is (is-multiplied D (ok .proper) factors (encoded-array (ok .proper) (ok .message))) in
       let z : first (readChecks D a old) ≡ 0 =
       array-passes D a old (ok .proper) factors (front-passed (codeChecks (D .code)) _ tt passed) i (e ∙ ok .message .count) in
-      reads-unique D a old x (done m) h (finds (readChecks D a old) (IsMessage (D .code)) (encodedBy D) a old (sym z) (ok .message) (sym is))
+      reads-unique D a old x (done m) h (finds (readChecks D a old) (IsMessage (D .code)) (encodedBy D) a old (sym z) (ok .message)
+      (sym is))
 
   pub one-to-one : (m′ lent′ : List ℕ) → Encodes D m′ lent′ (done a) → m ≡ m′
   one-to-one m′ lent′ h =

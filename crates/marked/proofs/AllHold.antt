@@ -106,7 +106,8 @@ pub holds : (x : Example) → Computes x → Holds x
 unfolding Holds
 holds (product degree a b answer) h = h
 holds (encoding c m a) (z, is, n) = λ lent l.
-    writes (encodeChecks (plain c) m lent) (encodedBy (plain c) m) lent (let e : length lent ≡ length a = l ∙ sym n in rw e (sym z)) (sym is)
+    writes (encodeChecks (plain c) m lent) (encodedBy (plain c) m) lent (let e : length lent ≡ length a = l ∙ sym n in rw e (sym z))
+    (sym is)
 holds (decoding c τ y e written) (h, d) = λ lent w l.
     let passes : first (checksOf (g c τ y lent w)) ≡ 0 = lent-right c τ y lent w l ∙ h in
     decoded c τ y lent w passes e (written lent)

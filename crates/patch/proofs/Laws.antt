@@ -92,7 +92,8 @@ pub patch-front : {A : Type 0} (i : ℕ) (f : ℕ → A) (l : List A) {s : List 
     → set s i v ≡ patch 0 (i + 1) f l
 patch-front i f l {s} {v} is e = ap (λ (k : ℕ). set s k v) (sym (zero-add i)) ∙ patch-step 0 i f l is e
 
-pub getD-patch-front : {A : Type 0} (n : ℕ) (f : ℕ → A) (l : List A) {s : List A} → s ≡ patch 0 n f l → n ≤ length l → (k : ℕ) (d : A) → k < n
+pub getD-patch-front : {A : Type 0} (n : ℕ) (f : ℕ → A) (l : List A) {s : List A} → s ≡ patch 0 n f l → n ≤ length l → (k : ℕ) (d : A)
+    → k < n
     → getD (take n s) k d ≡ f k
 getD-patch-front n f l {s} is fits k d h =
     getD-take n s k d h ∙ ap (λ (i : ℕ). getD s i d) (sym (zero-add k)) ∙ rw is (getD-patch 0 f l n k d h (omega arith))

@@ -4,6 +4,7 @@
 --   power-others      unless the ending is 'corrected', the buffers are as lent
 --   corrected-row     the first row of a corrected answer is a row of symbols
 --   joint-ended       joint decoding of the powers ends by the table, with the space cleared
+--   joint-ready       below its checks it is ready; struck-ended, and ends by the table
 --   power-ends        so does the decoding of the row, with the first row given back
 -- Assumes nothing.
 use mathlib.Core.Path.{_≡_, refl, sym, ap, ap₂, _∙_, subst}
@@ -25,7 +26,10 @@ use Rattle.codes.proofs.Messages.{code-array}
 use Rattle.finish.specs.Working.{released}
 use Rattle.joint.specs.Promises.{Left, buffers, cleared, onCorrected}
 use Rattle.joint.specs.Promises as Joint
+use Rattle.joint.specs.Lost.{LostEnds}
+use Rattle.joint.specs.Working.{ReadyLost, StruckEnds}
 use Rattle.joint.proofs.Struck.{kept-else, ones-struck}
+use Rattle.joint.proofs.Lost.{whole-ready, none-ends, corrected-array}
 use Rattle.powers.specs.Powers.{powerRows, powerCode}
 use Rattle.powers.specs.Promises.{PowerEnds, EndsAs}
 use Rattle.powers.specs.Working.{Row, Shape, Ready}
@@ -71,6 +75,9 @@ module _ {d k s : ℕ} {xs : List ℕ} {τ : ℕ} {z a f w : List ℕ} (h : Read
   abbrev Plain : Ending → Buffers → Type 0
   Plain = Joint.Struck (plain (powerCode d xs k s)) (powerRows d s z) (λ y. Ends (powerCode d xs k s) y τ (buffers a f))
 
+  array : IsArray (powerCode d xs k s) (powerRows d s z)
+  array = rows-array d (h .shape .proper .field) xs k s (h .row)
+
   pub joint-ended : (l : Left) → Joint.Decodes (Joint.given (plain (powerCode d xs k s)) τ (powerRows d s z) (buffers a f) w) l
       → Table (l .ending) (l .buffers) × (l .space ≡ cleared w)
   joint-ended l p = told (Mark.decodeChecks (plain (powerCode d xs k s)) τ (powerRows d s z) a f w)
@@ -81,9 +88,16 @@ module _ {d k s : ℕ} {xs : List ℕ} {τ : ℕ} {z a f w : List ℕ} (h : Read
         c,
       ))
       (λ n e d. absurd (omega (arith, joint-passes h)))
-    where
-      array : IsArray (powerCode d xs k s) (powerRows d s z)
-      array = rows-array d (h .shape .proper .field) xs k s (h .row)
+
+  -- and below its checks
+  pub joint-ready : ReadyLost (powerCode d xs k s) τ [] (powerRows d s z)
+  joint-ready = whole-ready (h .counts) (h .shape .proper) array (h .limit)
+
+  pub struck-ended : (e : Ending) (b : Buffers) → StruckEnds (plain (powerCode d xs k s)) [] (powerRows d s z) τ (buffers a f) e b
+      → Table e b
+  struck-ended e b t = none-ends (powerCode d xs k s) array τ (buffers a f) b e .0
+      (ones-struck (powerCode d xs k s) (h .shape .proper) array (λ y. LostEnds (powerCode d xs k s) [] y τ (buffers a f))
+      (λ m b q. corrected-array (powerCode d xs k s) [] (h .shape .proper) q) e b .0 t)
 
 -- the first row given back: unless the ending is 'corrected', the buffers stay as lent
 module _ (d k s : ℕ) (xs fs : List ℕ) (τ : ℕ) (y a f : List ℕ) {z : List ℕ} (quotient : z ≡ divided (descriptionOf d xs fs (k ∷ [])) y)

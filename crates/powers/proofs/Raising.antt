@@ -104,7 +104,8 @@ module _ {d s : ℕ} {z l₀ : List ℕ} (g : Raising d s z l₀) where
 
         behind : lay (at + n) rest l′ ≡ lay at (powerRowsFrom d (suc i) (s - i) z) l
         behind = lay-behind at (powerRow d (suc i) z) rest l (length-row d (suc i) z) (is ∙ ap (λ (r : List ℕ). lay at r l) (h .power))
-            (omega (arith, ap length rows, length-rows d (suc i) (s - i) z, h .place, h .same, g .room)) ∙ ap (λ (r : List ℕ). lay at r l) rows
+            (omega (arith, ap length rows, length-rows d (suc i) (s - i) z, h .place, h .same, g .room))
+            ∙ ap (λ (r : List ℕ). lay at r l) rows
 
   pub raised-all : {l p : List ℕ} {at i : ℕ} → Raised d s z l₀ l p at i → ¬ (i < s) → l ≡ lay 0 (powerRows d s z) l₀
   unfolding upFrom flatMap

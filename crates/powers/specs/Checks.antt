@@ -20,8 +20,12 @@ abbrev pub countedLengths : (k s : ℕ) → List ℕ
 countedLengths k s = k ∷ powerLength k s ∷ []
 
 abbrev pub shapeChecks : (d n k s : ℕ) → List Check
-shapeChecks d n k s = (1 when badDegree d) ∷ (3 when outside 1 96 n) ∷ (20 when outside 1 4 s)
-    ∷ (4 when someOutside 1 n (countedLengths k s)) ∷ (18 when isIn n (countedLengths k s)) ∷ []
+shapeChecks d n k s =
+    (1 when badDegree d)
+    ∷ (3 when outside 1 96 n)
+    ∷ (20 when outside 1 4 s)
+    ∷ (4 when someOutside 1 n (countedLengths k s))
+    ∷ (18 when isIn n (countedLengths k s)) ∷ []
 
 -- 'the lengths in 5 are those of one row; the limits are those of the s rows'
 abbrev pub decodeChecks : (d k s : ℕ) (points factors : List ℕ) (limit : ℕ) (received answer flags space : List ℕ) → List Check

@@ -6,6 +6,7 @@ ghost use lib.ListN.{length, take};
 ghost use Rattle.patch.specs.Parts.{lay};
 ghost use Rattle.refusal.specs.Refusal.{_when_, first, isIn, someOutside};
 ghost use Rattle.field.specs.Symbols.{times};
+ghost use Rattle.field.specs.Working.Tables.{IsTable};
 ghost use Rattle.codes.specs.Factors.{withFactors};
 ghost use Rattle.ending.specs.Endings.{Ends};
 ghost use Rattle.finish.specs.Working.{released};
@@ -14,8 +15,10 @@ ghost use Rattle.powers.specs.Powers.{powerCode, powerLength, powerLengt
 ghost use Rattle.powers.specs.Checks.{countedLengths, decodeChecks, shapeChecks};
 ghost use Rattle.powers.specs.Promises.{Decodes, EndsAs};
 ghost use Rattle.powers.specs.Working.{Countable, Counted, Giving, Raising, Ready, Short};
+use array_checks::SPACE;
 use ending::Ending;
 use field::tables;
+use field::tables::Table;
 
 // The message length of the power i.
 fn length(k: u32, i: usize) -> usize
@@ -113,24 +116,23 @@ fn decode_refusal(
 }
 
 // Writes the powers of a row, from the first on, one after the other at the front of rows.
-fn raise(degree: u32, powers: usize, row: &[u8], rows: &mut [u8])
-    requires { ⌜ Raising degree powers (now row) (now rows) ⌝ }
+fn raise(table: &Table, degree: u32, powers: usize, row: &[u8], rows: &mut [u8])
+    requires { ⌜ Raising degree powers (now row) (now rows) × IsTable degree (now table) ⌝ }
     ensures { λ _. ⌜ now (rows .exit) ≡ lay 0 (powerRows degree powers (now (row .entry))) (now (rows .entry)) ⌝ }
 {
-    let table = tables::lend(degree);
     let mut power = [0u8; 96];
     rows::store(row, &mut power, 0);
     let mut at = 0;
     let mut i = 0;
     while i < powers {
         rows::store(&power[..row.len()], rows, at);
-        lists::multiply(&table, degree, row, 0, &mut power, 0, 0);
+        lists::multiply(table, degree, row, 0, &mut power, 0, 0);
         at += row.len();
         i += 1;
     }
 }
 
-// Decodes the powers of a row jointly, with factors of one; the answer of all rows is own.
+// Decodes the powers of a row jointly, with factors of one; the answer of all rows is own. The field's table is worked out once for both.
 fn decode_rows(
     degree: u32,
     k: u32,
@@ -147,21 +149,28 @@ fn decode_rows(
         (buffers (now (own .entry)) (now (flags .entry))) r (buffers (now (own .exit)) (now (flags .exit)))
         × (now (space .exit) ≡ cleared (now (space .entry))) ⌝ }
 {
+    let table = tables::lend(degree);
     let ks = lengths(k, powers);
     let ones = [1u8; 96];
     let mut rows = [0u8; 384];
-    raise(degree, powers as usize, row, &mut rows);
-    joint::decode(
+    raise(&table, degree, powers as usize, row, &mut rows);
+    let ending = joint::decode_struck(
+        &table,
         degree,
         &ks[..powers as usize],
         points,
+        &row[..0],
         &ones[..points.len()],
+        true,
         limit,
+        &row[..0],
         &rows[..own.len()],
         own,
         flags,
-        space,
-    )
+        &mut space[..SPACE],
+    );
+    rows::clear(space, 0, SPACE);
+    ending
 }
 
 // Gives the row back, times the factors, on `corrected` alone.

@@ -71,8 +71,11 @@ outOfRange b = outside 1 4 (rowsIn b) || outside 1 96 (columnsIn b)
 -- with r or n out of range', whose number is the first of 1, 2 and 3 that applies.
 abbrev pub stopChecks : List ℕ → List Check
 stopChecks b =
-    (12 when noMark b) ∷ (13 when ltb (length b) 5)
-    ∷ (1 when outOfRange b && badDegree (degreeIn b)) ∷ (2 when outside 1 4 (rowsIn b)) ∷ (3 when outside 1 96 (columnsIn b))
+    (12 when noMark b)
+    ∷ (13 when ltb (length b) 5)
+    ∷ (1 when outOfRange b && badDegree (degreeIn b))
+    ∷ (2 when outside 1 4 (rowsIn b))
+    ∷ (3 when outside 1 96 (columnsIn b))
     ∷ (13 when ltb (length b) (sizeIn b)) ∷ []
 
 unfoldable pub stopOf : List ℕ → ℕ

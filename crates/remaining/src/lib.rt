@@ -32,7 +32,8 @@ pub fn lost_flags(lost: &[u8]) -> [u8; 96]
 pub fn gather_rows(gone: &[u8], lengths: &[u8], received: &[u8], s: &mut [u8])
     requires { ⌜ (length (now received) ≡ length (now lengths) * length (now gone)) × (length (now received) ≤ length (now s)) ⌝ }
     ensures { λ _. ⌜ now (s .exit)
-        ≡ lay 0 (rightRows (now (gone .entry)) (length (now (gone .entry))) (length (now (lengths .entry))) (now (received .entry))) (now (s .entry)) ⌝ }
+        ≡ lay 0 (rightRows (now (gone .entry)) (length (now (gone .entry))) (length (now (lengths .entry))) (now (received .entry)))
+        (now (s .entry)) ⌝ }
 {
     let mut from = 0;
     let mut at = 0;
@@ -69,7 +70,9 @@ fn fill_flagged(
     requires { ⌜ Ready (codeOf degree (now points) (now lengths)) (now received) ⌝ }
     requires { ⌜ (length (now s) ≡ mostCells) ⌝ }
     requires { ⌜ (length (now flags) ≡ length (now points)) × Room (length (now points)) (total (toFill (now flags))) (now lengths) ⌝ }
-    ensures { λ _. ⌜ now (s .exit) ≡ lay 0 (filled (codeOf degree (now (points .entry)) (now (lengths .entry))) (now (received .entry)) (toFill (now (flags .entry)))) (now (s .entry)) ⌝ }
+    ensures { λ _. ⌜ now (s .exit)
+        ≡ lay 0 (filled (codeOf degree (now (points .entry)) (now (lengths .entry))) (now (received .entry)) (toFill (now (flags .entry))))
+        (now (s .entry)) ⌝ }
 {
     let table = tables::lend(degree);
     let mut stay = [0u8; 96];

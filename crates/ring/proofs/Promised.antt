@@ -91,7 +91,8 @@ module _ {q m τ : ℕ} {L y w f s : List ℕ} (p : PassedLost q m τ L y w f s)
   proper : Proper (ringCode q m)
   proper = ring-proper q m (p .word .ring .size) (p .word .ring .order)
 
-  pub lost-ended : length b ≡ q * q * q → (l : Joint.Left) → Joint-lost.DecodesLost L (Joint.given (plain (ringCode q m)) τ a (buffers b f) s) l
+  pub lost-ended : length b ≡ q * q * q → (l : Joint.Left)
+      → Joint-lost.DecodesLost L (Joint.given (plain (ringCode q m)) τ a (buffers b f) s) l
       → Array (l .ending) (l .buffers) × (l .space ≡ cleared s)
   lost-ended k l h = told (Checks.lostChecks (plain (ringCode q m)) τ L a b f s) (λ n. Joint.left (Refused n) (buffers b f) s)
       (λ l. Joint.Struck (plain (ringCode q m)) a Table (l .ending) (l .buffers) × (l .space ≡ cleared s)) l h

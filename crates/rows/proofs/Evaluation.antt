@@ -4,7 +4,6 @@
 --   inner d xs us j x    the same times x less the node before: what the loop has when it comes to coefficient j − 1
 --   values-start, values-step, values-end    the row before the first turn, a turn, and the row that comes out
 --   values-fit, values-in    on the way it has room for them, and symbols
---   Evaluating           what all this asks for
 --   zeros                zeros are zeros
 --   plain-values         where all nodes are zero the Newton coefficients are the coefficients
 -- Assumes nothing.
@@ -21,15 +20,14 @@ use Rattle.patch.specs.Parts.{lay}
 use Rattle.patch.proofs.Laws.{length-patch}
 use Rattle.patch.proofs.Parts.{length-lay, getD-lay, lay-again, patch-is-lay}
 use Rattle.refusal.specs.Refusal.{badDegree}
-use Rattle.field.specs.Symbols.{IsSymbol, plus, times}
+use Rattle.field.specs.Symbols.{plus, times}
 use Rattle.lists.specs.Working.Lists.{multiplied, multipliedAt, SymbolsAt}
 use Rattle.field.specs.Arithmetic.{Arithmetic, gf}
-use Rattle.field.specs.Working.Tables.{Lent}
 use Rattle.field.proofs.Laws.{Field}
 use Rattle.field.proofs.Instance.{field}
-use Rattle.poly.specs.Poly.{All, Zero, value, valuesAt}
+use Rattle.poly.specs.Poly.{Zero, value, valuesAt}
 use Rattle.poly.proofs.Forms.{newtonValue}
-use Rattle.rows.specs.Working.Rows.{constantAdded, newtonValues}
+use Rattle.rows.specs.Working.Rows.{constantAdded, newtonValues, Evaluating}
 use Rattle.poly.proofs.Ring.{plus-zero, plus-comm, times-zero}
 
 -- ---- values at points, laid in a list
@@ -96,16 +94,6 @@ module _ (d : ℕ) (good : badDegree d ≡ false) (nodes us : List ℕ) (enough 
   inner-less j x y h k e =
       let two : j - 2 ≡ j - 1 - 1 = omega arith in
       ap₂ (λ (i u : ℕ). times d (plus x (getD nodes i 0)) u) two (rw e (rest-less j x (omega arith) k))
-
--- what evaluation at xs, in l from at on, asks for
-pub record Evaluating (d : ℕ) (t xs nodes us l : List ℕ) (at : ℕ) : Type 0 where
-  pub lent : Lent d t
-  pub points : All (IsSymbol d) xs
-  pub nodes-in : All (IsSymbol d) nodes
-  pub coefficients : All (IsSymbol d) us
-  pub some : 0 < length us
-  pub enough : length us ≤ length nodes
-  pub room : at + length xs ≤ length l
 
 module _ {d : ℕ} {table xs nodes us e : List ℕ} {at : ℕ} (g : Evaluating d table xs nodes us e at) where
   pub values-start : {s : List ℕ} → s ≡ patch at (length xs) (λ i. 0) e → s ≡ lay at (map (inner d nodes us (length us)) xs) s

@@ -11,7 +11,7 @@ use Prim.Native.Nat.{ℕ, zero, suc, _-_, _≤_}
 use native.Mathlib.Omega.{arith}
 use lib.ListN.{length, take, drop}
 use lib.Seq.{length-take-le, take-nil, take-take}
-use Rattle.patch.specs.Parts.{part, lay}
+use Rattle.patch.specs.Parts.{lay}
 use Rattle.patch.proofs.Parts.{take-lay}
 use Rattle.field.specs.Arithmetic.{Arithmetic, gf}
 use Rattle.field.proofs.Laws.{Field}

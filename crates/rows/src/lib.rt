@@ -3,7 +3,7 @@
 ghost use mathlib.Core.Path.{_≡_};
 ghost use mathlib.Core.Bool.{true, false};
 ghost use mathlib.Core.Logic.{_↔_};
-ghost use Prim.Native.Nat.{ℕ, _+_, _-_, _≤_, _<_};
+ghost use Prim.Native.Nat.{ℕ, _+_, _-_, _%_, _≤_, _<_};
 ghost use lib.ListN.{length};
 ghost use Rattle.patch.specs.Patch.{patch};
 ghost use Rattle.patch.specs.Parts.{lay};
@@ -13,7 +13,7 @@ ghost use Rattle.field.specs.Arithmetic.{gf};
 ghost use Rattle.field.specs.Working.Tables.{IsTable};
 ghost use Rattle.poly.specs.Poly.{All, valuesAt};
 ghost use Rattle.poly.proofs.Forms.{fromNewton};
-ghost use Rattle.rows.specs.Working.Rows.{Inverting, invertedAt, constantAdded, newtonValues};
+ghost use Rattle.rows.specs.Working.Rows.{Inverting, Evaluating, invertedAt, constantAdded, newtonValues, evaluatedAt};
 use field::tables;
 use field::tables::Table;
 
@@ -81,7 +81,7 @@ fn inverses(table: &Table, degree: u32, points: &[u8], j: usize, w: &mut [u8], a
     }
 }
 
-// The values at the points xs of the polynomial with the Newton coefficients us at the nodes; quickest for whole sixteens of points.
+// The values at the points xs, which are whole sixteens, of the polynomial with the Newton coefficients us at the nodes.
 fn evaluate_whole(
     table: &Table,
     degree: u32,
@@ -91,11 +91,10 @@ fn evaluate_whole(
     s: &mut [u8],
     at: usize,
 )
-    requires { ⌜ (badDegree degree ≡ false) × IsTable degree (now table) ⌝ }
-    requires { ⌜ All (IsSymbol degree) (now xs) × All (IsSymbol degree) (now nodes) × All (IsSymbol degree) (now us) ⌝ }
-    requires { ⌜ (0 < length (now us)) × (length (now us) ≤ length (now nodes)) × (at + length (now xs) ≤ length (now s)) ⌝ }
+    requires { ⌜ Evaluating degree (now table) (now xs) (now nodes) (now us) (now s) at ⌝ }
+    requires { ⌜ length (now xs) % 16 ≡ 0 ⌝ }
     ensures { λ _.
-        ⌜ now (s .exit) ≡ lay at (newtonValues degree (now (nodes .entry)) (now (us .entry)) (now (xs .entry))) (now (s .entry)) ⌝ }
+        ⌜ now (s .exit) ≡ evaluatedAt degree (now (nodes .entry)) (now (us .entry)) (now (xs .entry)) (now (s .entry)) at ⌝ }
 {
     clear(s, at, xs.len());
     let mut j = us.len();
@@ -116,12 +115,10 @@ fn evaluate_some(
     s: &mut [u8],
     at: usize,
 )
-    requires { ⌜ (badDegree degree ≡ false) × IsTable degree (now table) ⌝ }
-    requires { ⌜ All (IsSymbol degree) (now xs) × All (IsSymbol degree) (now nodes) × All (IsSymbol degree) (now us) ⌝ }
-    requires { ⌜ (0 < length (now us)) × (length (now us) ≤ length (now nodes)) × (at + length (now xs) ≤ length (now s)) ⌝ }
+    requires { ⌜ Evaluating degree (now table) (now xs) (now nodes) (now us) (now s) at ⌝ }
     requires { ⌜ length (now xs) ≤ 96 ⌝ }
     ensures { λ _.
-        ⌜ now (s .exit) ≡ lay at (newtonValues degree (now (nodes .entry)) (now (us .entry)) (now (xs .entry))) (now (s .entry)) ⌝ }
+        ⌜ now (s .exit) ≡ evaluatedAt degree (now (nodes .entry)) (now (us .entry)) (now (xs .entry)) (now (s .entry)) at ⌝ }
 {
     let mut ys = [0u8; 96];
     let mut vs = [0u8; 96];

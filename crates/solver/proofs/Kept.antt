@@ -86,9 +86,14 @@ added-at d good c w l at k fits = go (decLt k (length w))
 module _ (d : ℕ) (good : badDegree d ≡ false) (C s i : ℕ) (next : i < C) {l l₀ : List ℕ} {m m₀ : ℕ} {e p : Line ℕ}
     (h : Held d C s i l m e) (hp : Held d C s i l₀ m₀ p)
   where
-    pub held-mix : (c : ℕ) (w : List ℕ) → length l ≡ 768 → i + 1 + length w ≤ 768 → p .lead ≤ e .lead → ((k : ℕ) → getD w k 0 ≡ getD (after p) k 0)
+    pub held-mix : (c : ℕ) (w : List ℕ) → length l ≡ 768 → i + 1 + length w ≤ 768 → p .lead ≤ e .lead
+        → ((k : ℕ) → getD w k 0 ≡ getD (after p) k 0)
         → Held d C s (i + 1) (patch (i + 1) (length w) (added d c w l (i + 1)) l) m
-        (record { lead = e .lead; locator = mix (gf d) c (e .locator) (p .locator); values = mix (gf d) c (later (e .values)) (later (p .values)) })
+        (record {
+          lead = e .lead;
+          locator = mix (gf d) c (e .locator) (p .locator);
+          values = mix (gf d) c (later (e .values)) (later (p .values));
+        })
     held-mix c w size fits above copied =
         record {
           lead = h .lead;
@@ -102,7 +107,8 @@ module _ (d : ℕ) (good : badDegree d ≡ false) (C s i : ℕ) (next : i < C) {
         lengths : length (later (e .values)) ≡ length (later (p .values))
         lengths = omega (arith, count-next d C s i next h, count-next d C s i next hp)
 
-        joined : mix (gf d) c (later (e .values)) (later (p .values)) ++ mix (gf d) c (e .locator) (p .locator) ≡ mix (gf d) c (after e) (after p)
+        joined : mix (gf d) c (later (e .values)) (later (p .values)) ++ mix (gf d) c (e .locator) (p .locator)
+            ≡ mix (gf d) c (after e) (after p)
         joined = mix-append (gf d) c (later (e .values)) (later (p .values)) (e .locator) (p .locator) lengths
 
         live-at : (k : ℕ) → getD (mix (gf d) c (later (e .values)) (later (p .values)) ++ mix (gf d) c (e .locator) (p .locator)) k 0

@@ -82,7 +82,11 @@ module _ (d t : ℕ) where
 
   run-by : (at n k l : ℕ) {v : ℕ} → l ≤ k → Run at n (k - l) v → Run (l + at) n k v
   run-by at n k l le r =
-      record { before = λ h. r .before (omega arith); inside = λ h g. r .inside (omega arith) (omega arith); behind = λ h. r .behind (omega arith) }
+      record {
+        before = λ h. r .before (omega arith);
+        inside = λ h g. r .inside (omega arith) (omega arith);
+        behind = λ h. r .behind (omega arith);
+      }
 
   pub marks-run : (j l : ℕ) (rows : List (Row ℕ)) → t ≡ j + l → (k : ℕ)
       → Run (allCounts (take l (countsOf rows))) (getD (countsOf rows) l 0) k (getD (marks j rows) k 0)
@@ -107,12 +111,15 @@ module _ (d t : ℕ) where
   marks-run j (suc l) (row ∷ rows) e k = go (decLt k (length row)) (marks-run (suc j) l rows (omega arith) (k - length row))
     where
       go : Dec (k < length row)
-          → Run (allCounts (take l (countsOf rows))) (getD (countsOf rows) l 0) (k - length row) (getD (marks (suc j) rows) (k - length row) 0)
+          → Run (allCounts (take l (countsOf rows))) (getD (countsOf rows) l 0) (k - length row)
+          (getD (marks (suc j) rows) (k - length row) 0)
           → Run (length row + allCounts (take l (countsOf rows))) (getD (countsOf rows) l 0) k (getD (marks j (row ∷ rows)) k 0)
       go (yes own) r =
-          let zero-there : getD (marks j (row ∷ rows)) k 0 ≡ 0 = own-at j row (conditions (suc j) rows) k own ∙ unit-other d j t (omega arith) in
+          let zero-there : getD (marks j (row ∷ rows)) k 0 ≡ 0 =
+          own-at j row (conditions (suc j) rows) k own ∙ unit-other d j t (omega arith) in
           record { before = λ h. zero-there; inside = λ h g. absurd (omega arith); behind = λ h. zero-there }
-      go (no next) r = rw (next-at j row (conditions (suc j) rows) (k - length row) k (omega arith)) (run-by _ _ k (length row) (omega arith) r)
+      go (no next) r =
+          rw (next-at j row (conditions (suc j) rows) (k - length row) k (omega arith)) (run-by _ _ k (length row) (omega arith) r)
 
   unit-in : Field (gf d) → (i j : ℕ) → (gf d) .In (unit (gf d) i j)
   unfolding unit

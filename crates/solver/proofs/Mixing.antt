@@ -81,7 +81,8 @@ pub copied : (p at n : ℕ) (l z : List ℕ) {v w : List ℕ} → at + n ≤ 768
 copied p at n l z {v} {w} within fits room is zeroed =
     let size : length (part at n (slots p l)) ≡ n = length-part at n (slots p l) (omega (arith, slots-length p l fits)) in
     let long : length v ≡ length z = rw is (length-lay 0 _ z) in
-    let front : take n v ≡ part at n (slots p l) = rows.take-copied (768 * p + at) n l z (omega arith) (omega arith) is ∙ part-slots p at n l within fits in
+    let front : take n v ≡ part at n (slots p l) =
+    rows.take-copied (768 * p + at) n l z (omega arith) (omega arith) is ∙ part-slots p at n l within fits in
     let same : take n w ≡ take n v =
     ext-getD 0 _ _ (length-take-le n w (rw (zeroed, length-patch) (omega arith)) ∙ sym (length-take-le n v (omega arith)))
     (λ k lt. let below : k < n = omega (arith, length-take-le n w (rw (zeroed, length-patch) (omega arith))) in
@@ -91,7 +92,8 @@ copied p at n l z {v} {w} within fits room is zeroed =
       zeros = λ k h. rw (size, zeroed) (getD-patch n (λ (i : ℕ). 0) v 16 k 0 h (omega arith));
     }
 
-module _ (d : ℕ) (good : badDegree d ≡ false) (q w : List ℕ) (copy : Copied q w) (m : ℕ) (from : length q ≤ m) (to : m ≤ length q + 16) (fits : m ≤ length w) where
+module _ (d : ℕ) (good : badDegree d ≡ false) (q w : List ℕ) (copy : Copied q w)
+    (m : ℕ) (from : length q ≤ m) (to : m ≤ length q + 16) (fits : m ≤ length w) where
   same-front : (k : ℕ) → k < length q → getD (take m w) k 0 ≡ getD q k 0
   same-front k h =
       getD-take m w k 0 (omega arith) ∙ sym (getD-take (length q) w k 0 h) ∙ ap (λ (v : List ℕ). getD v k 0) (copy .front)
@@ -109,7 +111,7 @@ module _ (d : ℕ) (good : badDegree d ≡ false) (q w : List ℕ) (copy : Copie
   more-by ds p at j l (no h) (no z) =
       let c : ℕ = over d (getD ds j 0) (getD ds p 0) in
       let f : ℕ → ℕ = added d c (take m w) l at in
-      let size : length (take m w) ≡ length q + (m - length q) = length-take-le m w fits ∙ (let e : m ≡ length q + (m - length q) = omega arith in e) in
+      let size : length (take m w) ≡ length q + (m - length q) = omega (arith, length-take-le m w fits) in
       ap (λ (n : ℕ). patch at n f l) size
       ∙ patch-kept at (length q) (m - length q) f l 0 (λ k h. nothing c (getD l (at + (length q + k)) 0) k h)
       ∙ patch-cong at (length q) f (added d c q l at) l (λ k h. ap (λ (y : ℕ). plus (getD l (at + k) 0) (times d y c)) (same-front k h))

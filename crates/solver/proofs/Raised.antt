@@ -58,7 +58,8 @@ module _ (d : ℕ) (good : badDegree d ≡ false) (C s i : ℕ) (next : i < C) {
     value-at k lt =
         getD-patch (i + 1) _ l (length xs) k 0 lt (omega arith)
         ∙ ap (times d (plus (getD xs k 0) x))
-        (plus-zero (gf d) (field d good) _ ∙ slot-next d C s i next h k (omega arith) ∙ List·getD-append (later (p .values)) (p .locator) 0 k (omega (arith, lengths)))
+        (plus-zero (gf d) (field d good) _ ∙ slot-next d C s i next h k (omega arith)
+        ∙ List·getD-append (later (p .values)) (p .locator) 0 k (omega (arith, lengths)))
         ∙ sym (lifted-at (gf d) x xs (later (p .values)) lengths k lt)
 
     -- the locator, before it is multiplied
@@ -118,7 +119,9 @@ module _ (d : ℕ) (good : badDegree d ≡ false) (C s i : ℕ) (next : i < C) {
 
         go : Dec (k < length xs) → getD (located d x C width new) (i + 1 + k) 0
             ≡ getD (lifts ++ product) k 0
-        go (yes lt) = getD-lay-below C _ new (i + 1 + k) (omega arith) ∙ value-at k lt ∙ sym (List·getD-append lifts _ 0 k (omega (arith, long)))
+        go (yes lt) =
+            getD-lay-below C _ new (i + 1 + k) (omega arith) ∙ value-at k lt
+            ∙ sym (List·getD-append lifts _ 0 k (omega (arith, long)))
         go (no ge) =
             let n : ℕ = k - length xs in
             let place : i + 1 + k ≡ C + n = omega arith in
@@ -130,10 +133,15 @@ module _ (d : ℕ) (good : badDegree d ≡ false) (C s i : ℕ) (next : i < C) {
     narrow-next (suc n) lt =
         let below : p .lead < n * s = omega (arith, suc-mul n s) in
         at-mix (gf d) (field d good) x (0 ∷ p .locator) (p .locator) (suc n)
-        ∙ rw (h .narrow n below, h .narrow (suc n) (omega (arith, suc-mul n s)), times-zero (gf d) (field d good) x) (plus-zero (gf d) (field d good) 0)
+        ∙ rw (h .narrow n below, h .narrow (suc n) (omega (arith, suc-mul n s)), times-zero (gf d) (field d good) x)
+        (plus-zero (gf d) (field d good) 0)
 
     pub held-raise : Held d C s (i + 1) (raised d xs x (i + 1) width l) (m + s)
-        (record { lead = s + p .lead; locator = mix (gf d) x (0 ∷ p .locator) (p .locator); values = lifted (gf d) x xs (later (p .values)) })
+        (record {
+          lead = s + p .lead;
+          locator = mix (gf d) x (0 ∷ p .locator) (p .locator);
+          values = lifted (gf d) x xs (later (p .values));
+        })
     held-raise =
         record {
           lead = omega (arith, h .lead);

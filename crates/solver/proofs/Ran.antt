@@ -20,13 +20,14 @@ module _ (d : ℕ) (xs : List ℕ) (s : ℕ) (leads₀ space₀ : List ℕ) wher
   abbrev pub Left : ℕ → List ℕ → List ℕ → Type 0
   Left i leads space =
       (es : List (Line ℕ)) → HoldsLines d (length xs) s 0 leads₀ space₀ es
-      → (fs : List (Line ℕ)) × HoldsLines d (length xs) s i leads space fs × (run (gf d) ℕ-discrete s (drop i xs) fs ≡ run (gf d) ℕ-discrete s xs es)
+      → (fs : List (Line ℕ)) × HoldsLines d (length xs) s i leads space fs
+      × (run (gf d) ℕ-discrete s (drop i xs) fs ≡ run (gf d) ℕ-discrete s xs es)
 
   pub left-all : Left 0 leads₀ space₀
   left-all es h = (es, h, refl)
 
-  pub left-turn : (i : ℕ) (leads space leads′ space′ : List ℕ) → i < length xs → Left i leads space → Steps d xs s i leads space leads′ space′
-      → Left (i + 1) leads′ space′
+  pub left-turn : (i : ℕ) (leads space leads′ space′ : List ℕ) → i < length xs → Left i leads space
+      → Steps d xs s i leads space leads′ space′ → Left (i + 1) leads′ space′
   unfolding run
   left-turn i leads space leads′ space′ lt left steps es h =
       let (fs, held, same) = left es h in

@@ -39,8 +39,9 @@ numbered es r g e = go (decLt r (length es))
         let z : _≡_ {A = ℕ} 0 1 = cc in
         absurd (omega arith)
 
-pub locator-held : (d C s : ℕ) {leads space : List ℕ} {es : List (Line ℕ)} → HoldsLines d C s C leads space es → (j t : ℕ) → j < s → C + t < 768
-    → 768 * j + 768 ≤ length space → part (768 * j + C) (t + 1) space ≡ locatorOf (gf d) t (getD es j blank)
+pub locator-held : (d C s : ℕ) {leads space : List ℕ} {es : List (Line ℕ)} → HoldsLines d C s C leads space es → (j t : ℕ)
+    → j < s → C + t < 768 → 768 * j + 768 ≤ length space
+    → part (768 * j + C) (t + 1) space ≡ locatorOf (gf d) t (getD es j blank)
 locator-held d C s {leads} {space} {es} h j t lt short room =
     let e : Line ℕ = getD es j blank in
     let held : Held d C s C (slots j space) (getD leads j 0) e = h .each j lt in

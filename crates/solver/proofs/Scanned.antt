@@ -118,7 +118,8 @@ module _ {L : Type 0} (lead : L → ℕ) {P : L → Type 0} (test : (e : L) → 
     better-alike best j (yes h) (no h′) a b = absurd (h′ (b .1 h))
     better-alike best j (no h) (yes h′) a b = absurd (h (b .2 h′))
     better-alike none j (no h) (no h′) a b = refl
-    better-alike (some i) j (no h) (no h′) a b = ap some (lower-alike i j (decLt (lead (get j)) (lead (get i))) (decLt (number j) (number i)) a b)
+    better-alike (some i) j (no h) (no h′) a b =
+        ap some (lower-alike i j (decLt (lead (get j)) (lead (get i))) (decLt (number j) (number i)) a b)
 
     lower-has : (i j : ℕ) (t : Dec (number j < number i)) → Alike i → Alike j → Alike (Scan.lower number mark i j t)
     unfolding Scan.lower

@@ -32,7 +32,8 @@ module _ (ns xs us : List ℕ) (rows : List (Row ℕ)) (are : RowsAre ns xs us r
   lines : length ns + 1 ≡ suc (length rows)
   lines = omega (arith, ap length (are .counts), length-map rows (λ (row : Row ℕ). length row))
 
-  module _ (d : ℕ) (good : badDegree d ≡ false) (symbols : All (IsSymbol d) us) (leads space : List ℕ) (begin : Starts us ns leads space) where
+  module _ (d : ℕ) (good : badDegree d ≡ false) (symbols : All (IsSymbol d) us)
+      (leads space : List ℕ) (begin : Starts us ns leads space) where
     start-holds : HoldsLines d (length xs) (length ns + 1) 0 leads space (start (gf d) (length rows) (conditions 0 rows))
     start-holds = rw (lines, ← points-values) (begin d good symbols rows (are .counts) (are .values))
 

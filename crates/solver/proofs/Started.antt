@@ -145,9 +145,11 @@ pub counts-total : (j : ℕ) (rows : List (Row ℕ)) → allCounts (countsOf row
 counts-total j [] = refl
 counts-total j (row ∷ rows) =
     ap (λ (n : ℕ). length row + n) (counts-total (suc j) rows)
-    ∙ sym (length-append (map (condition j) row) (conditions (suc j) rows) ∙ ap (λ (n : ℕ). n + length (conditions (suc j) rows)) (length-map row (condition j)))
+    ∙ sym (length-append (map (condition j) row) (conditions (suc j) rows)
+    ∙ ap (λ (n : ℕ). n + length (conditions (suc j) rows)) (length-map row (condition j)))
 
-module _ (d : ℕ) (good : badDegree d ≡ false) (rows : List (Row ℕ)) (leads : List ℕ) {l m l′ : List ℕ} (symbols : All (IsSymbol d) (valuesOf rows))
+module _ (d : ℕ) (good : badDegree d ≡ false) (rows : List (Row ℕ)) (leads : List ℕ) {l m l′ : List ℕ}
+    (symbols : All (IsSymbol d) (valuesOf rows))
     (first : Only 0 (firstSlots (valuesOf rows)) l m) (others : Each (suc (length rows)) (rowLine (countsOf rows)) m l′)
     (leading : (j : ℕ) → j < suc (length rows) → getD leads j 0 ≡ j) (enough : suc (length rows) ≤ length leads)
     (short : length (valuesOf rows) ≤ 380) (room : 768 * suc (length rows) ≤ length l)
@@ -208,4 +210,5 @@ starts us ns l m l′ short few room first others d good symbols rows counts val
     let number : length ns + 1 ≡ suc (length rows) = omega (arith, ap length counts, length-map rows (λ (row : Row ℕ). length row)) in
     rw (← values)
     (started d good rows leads₀ (rw (← values) at symbols) (rw (← values) at first) (rw counts (rw number at others))
-    (λ j lt. five (λ (k : ℕ). getD leads₀ k 0 ≡ k) refl refl refl refl refl j (omega arith)) (omega arith) (rw values short) (rw (← number) room))
+    (λ j lt. five (λ (k : ℕ). getD leads₀ k 0 ≡ k) refl refl refl refl refl j (omega arith)) (omega arith)
+    (rw values short) (rw (← number) room))

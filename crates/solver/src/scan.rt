@@ -11,7 +11,9 @@ ghost use Rattle.solver.specs.Working.Scan.{found, leadOf, unmarked, fir
 // The better of the best line so far, `lines` for none, and line j: of the marked ones the first of lowest lead.
 fn better(marks: &[u8; 5], leads: &[usize; 5], lines: usize, best: usize, j: usize) -> usize
     requires { ⌜ (lines ≤ 5) × (best ≤ lines) × (j < lines) ⌝ }
-    ensures { λ r. ⌜ (r ≤ lines) × (found lines r ≡ better (leadOf (now (leads .entry))) (unmarked (now (marks .entry))) (found lines best) j (unmarked (now (marks .entry)) j)) ⌝ }
+    ensures { λ r. ⌜ (r ≤ lines)
+        × (found lines r
+        ≡ better (leadOf (now (leads .entry))) (unmarked (now (marks .entry))) (found lines best) j (unmarked (now (marks .entry)) j)) ⌝ }
 {
     if marks[j] == 0 {
         return best;
@@ -42,7 +44,8 @@ pub(crate) fn pivot(marks: &[u8; 5], leads: &[usize; 5], lines: usize) -> usize
 // For the crates above: the number of the first line of lowest lead.
 pub fn least(leads: &[usize; 5], lines: usize) -> usize
     requires { ⌜ lines ≤ 5 ⌝ }
-    ensures { λ r. ⌜ (r ≤ lines) × ((es : List (Line ℕ)) → length es ≡ lines → LeadsOf (now (leads .entry)) es → getElem? es r ≡ least es) ⌝ }
+    ensures { λ r. ⌜ (r ≤ lines)
+        × ((es : List (Line ℕ)) → length es ≡ lines → LeadsOf (now (leads .entry)) es → getElem? es r ≡ least es) ⌝ }
 {
     pivot(&[1u8; 5], leads, lines)
 }
@@ -57,7 +60,8 @@ fn other(lead: usize, m: usize) -> u8
 // For the crates above: the number of the first line of lowest lead among those whose lead is not m; `lines` where there is none.
 pub fn another(leads: &[usize; 5], lines: usize, m: usize) -> usize
     requires { ⌜ lines ≤ 5 ⌝ }
-    ensures { λ r. ⌜ (r ≤ lines) × ((es : List (Line ℕ)) → length es ≡ lines → LeadsOf (now (leads .entry)) es → getElem? es r ≡ another m es) ⌝ }
+    ensures { λ r. ⌜ (r ≤ lines)
+        × ((es : List (Line ℕ)) → length es ≡ lines → LeadsOf (now (leads .entry)) es → getElem? es r ≡ another m es) ⌝ }
 {
     let marks = [
         other(leads[0], m),

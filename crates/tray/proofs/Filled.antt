@@ -243,7 +243,10 @@ module _ {A : Type 0} (say : Ending → A) (g : GivenTray A) where
     space-next (suc n) e = subst (Begun (D .code) (g .space)) (sym (left ∙ ap (λ (x : Bool). clearedIf x v) (ne-eqb _ _ more))) begun
       where
         more : ¬ (i * cells (D .code) + cells (D .code) ≡ length (b .array))
-        more z = omega (arith, suc-mul i (cells (D .code)), mul-le-mul-right {m = suc (suc i)} {n = marks g} (cells (D .code)) (omega arith), suc-mul (suc i) (cells (D .code)), some-cells, all)
+        more z =
+            let n = cells (D .code) in
+            let further = mul-le-mul-right {m = suc (suc i)} {n = marks g} n (omega arith) in
+            omega (arith, suc-mul i n, suc-mul (suc i) n, further, some-cells, all)
 
   -- where k may refuse the tray
   abbrev pub Held : (k i : ℕ) (s : List A) (b : Buffers) (w : List ℕ) → Type 0

@@ -5,7 +5,7 @@
 --   decoded-by           where it does not, the call ends as the decoding of the struck array, in whatever space
 --   ready                and that array is ready to be decoded
 -- Assumes nothing.
-use mathlib.Core.Path.{_≡_, refl, sym, _∙_, subst}
+use mathlib.Core.Path.{_≡_, refl, sym, _∙_}
 use mathlib.Core.Bool.{Bool, true, false}
 use mathlib.Core.List.{List, [], _∷_}
 use Prim.Native.Nat.{ℕ, _≤_}
@@ -14,12 +14,12 @@ use lib.ListN.{length}
 use borrow.Author.Tests.{le-ltb}
 use Rattle.refusal.specs.Refusal.{_when_, first, someOutsideField}
 use Rattle.refusal.proofs.Ladders.{hit, miss, miss-last, same-behind}
-use Rattle.codes.specs.Code.{Code, columns, largest, jointLimit}
+use Rattle.codes.specs.Code.{columns, jointLimit}
 use Rattle.codes.specs.Factors.{Description}
 use Rattle.codes.specs.Checks.{spaceBytes}
 use Rattle.codes.proofs.Proper.{array}
-use Rattle.codes.proofs.Passed.{largest-most, up-to-seven}
-use Rattle.codes.proofs.Lost.{core-none, none-remaining}
+use Rattle.codes.proofs.Passed.{up-to-seven}
+use Rattle.codes.proofs.Lost.{none-remaining}
 use Rattle.ending.specs.Endings.{Buffers}
 use Rattle.ending.specs.declared.Ending.{Ending}
 use Rattle.ending.specs.declared.Ending.the-variants.{Refused}
@@ -27,6 +27,7 @@ use Rattle.joint.specs.Promises.{Given, given, left, cleared, checksOf}
 use Rattle.joint.specs.Lost.{checksLost}
 use Rattle.joint.specs.Working.{ReadyLost, StruckEnds}
 use Rattle.joint.proofs.Promised.{refuses, leaves}
+use Rattle.joint.proofs.Lost.{whole-ready}
 use Rattle.joint.proofs.LostDemands.{nothing-lost}
 use Rattle.tray.specs.Promises.{cells}
 use Rattle.tray.specs.Working.{Common, Decoded}
@@ -51,17 +52,7 @@ module _ (D : Description) (τ : ℕ) (common : Common D τ) (y : List ℕ) (len
 
   module _ (good : bad ≡ false) where
     pub ready : ReadyLost (D .code) τ [] y
-    ready = record {
-      counts = common .counts;
-      proper = common .proper;
-      received = array (D .code) y received good;
-      remain = record {
-        lost = record { below = tt; distinct = tt };
-        enough = subst (λ (c : Code). largest (D .code .lengths) ≤ columns c) (sym (core-none (D .code)))
-            (largest-most (columns (D .code)) (D .code .lengths) (common .proper .lengths));
-        limit = subst (λ (c : Code). τ ≤ jointLimit c) (sym (core-none (D .code))) (common .limit);
-      };
-    }
+    ready = whole-ready (common .counts) (common .proper) (array (D .code) y received good) (common .limit)
 
     pub decoded-by : (e : Ending) (b : Buffers) → StruckEnds D [] y τ lent e b → Decoded D τ y lent e b
     decoded-by e b ends v room = (

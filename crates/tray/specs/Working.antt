@@ -19,7 +19,7 @@ use Prim.Native.Nat.{ℕ, zero, suc, _+_, _*_, _≤_, _<_}
 use lib.Dec.{eqb}
 use lib.ListN.{length, drop}
 use Rattle.patch.specs.Parts.{part, lay}
-use Rattle.field.specs.Working.Tables.{IsTable}
+use Rattle.field.specs.Working.Tables.{tableBytes, IsTable}
 use Rattle.rows.specs.Working.Rows.{Inverses}
 use Rattle.codes.specs.Code.{Code, columns, rows, largest, jointLimit}
 use Rattle.codes.specs.Factors.{Description}
@@ -37,10 +37,10 @@ use Rattle.tray.specs.declared.Answer.{Answer}
 use Rattle.tray.specs.Promises.{answerOf, cells, receivedOf, markOf}
 
 abbrev pub tableOf : List ℕ → List ℕ
-tableOf w = part 0 256 w
+tableOf w = part 0 tableBytes w
 
 abbrev pub inversesOf : List ℕ → List ℕ
-inversesOf w = part 256 mostInverses w
+inversesOf w = part tableBytes mostInverses w
 
 pub record Common (D : Description) (τ : ℕ) : Type 0 where
   pub counts : Counts (D .code)

@@ -18,8 +18,10 @@ ghost use Rattle.joint.specs.Working.{StruckEnds};
 ghost use Rattle.tray.specs.Promises.{DecodesTray, answerOf, givenTray, leftTray, trayChecks, wrongLengths};
 ghost use Rattle.tray.specs.Working.{Begun, Decoded, Lies, Marked, Marking, Opened, clearedIf, marksOf, outcomeOf};
 use array_checks::SPACE;
+use conditions::INVERSES;
 use ending::Ending;
 use field::tables;
+use field::tables::LENT;
 use mark::Outcome;
 
 // A mark's ending and its detail: 01's code and detail.
@@ -113,8 +115,14 @@ fn share(degree: u32, lengths: &[u8], points: &[u8], space: &mut [u8])
 {
     let table = tables::lend(degree);
     rows::store(&table, space, 0);
-    rows::clear(space, 256, 9216);
-    conditions::inverses(&table, degree, lengths, points, &mut space[256..9472]);
+    rows::clear(space, LENT, INVERSES);
+    conditions::inverses(
+        &table,
+        degree,
+        lengths,
+        points,
+        &mut space[LENT..LENT + INVERSES],
+    );
 }
 
 // Opens a tray: the number that refuses it whole, which touches nothing; or 0, with what all marks share in the working space.
@@ -217,15 +225,15 @@ fn work_mark(
         (now (received .entry)) limit (buffers (now (array .entry)) (now (flags .entry))) r
         (buffers (now (array .exit)) (now (flags .exit))) ⌝ }
 {
-    let mut table = [0u8; 256];
+    let mut table = [0u8; LENT];
     let mut lines = [0u8; 3840];
-    rows::store(&space[..256], &mut table, 0);
+    rows::store(&space[..LENT], &mut table, 0);
     joint::decode_struck(
         &table,
         degree,
         lengths,
         points,
-        &space[256..9472],
+        &space[LENT..LENT + INVERSES],
         factors,
         array_checks::all_ones(factors),
         limit,

@@ -19,7 +19,8 @@ use Rattle.array_checks.proofs.all_ones.Tie as tie
 xor-one : (f : ℕ) → (bitXor f 1 ≡ 0) ↔ (f ≡ 1)
 unfolding plus
 xor-one f = (
-  λ e. sym (plus-zero f) ∙ ap (plus f) (sym (plus-self 1)) ∙ sym (plus-assoc f 1 1) ∙ ap (λ (x : ℕ). plus x 1) e ∙ plus-comm 0 1 ∙ plus-zero 1,
+  λ e. sym (plus-zero f) ∙ ap (plus f) (sym (plus-self 1)) ∙ sym (plus-assoc f 1 1) ∙ ap (λ (x : ℕ). plus x 1) e ∙ plus-comm 0 1
+      ∙ plus-zero 1,
   λ e. ap (λ (x : ℕ). plus x 1) e ∙ plus-self 1,
 )
 

@@ -34,5 +34,6 @@ array-refusal-spec = tie.close (tie.spec
     (λ c κs. (counts (c .before) .degree, start (c .before .before) .pre))
     (λ c a f w p q s. let e = c .before .before in
     c .lent-refusal .ensures (described (e .before) .code .lengths) a f w p q s
-    ∙ ap (λ (n : ℕ). first (receivedChecks n (described (e .before)) (start (e .before) .args .received .now) a f w)) (c .before .cells .ensures)
+    ∙ ap (λ (n : ℕ). first (receivedChecks n (described (e .before)) (start (e .before) .args .received .now) a f w))
+    (c .before .cells .ensures)
     ∙ sym (passed-on (codeChecks (code (e .before))) _ tt (e .before .code-refusal .ensures) (e .if1 .left))))

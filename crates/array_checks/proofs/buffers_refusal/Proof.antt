@@ -40,7 +40,8 @@ module _ (m a : List ℕ) where
   checks c = codeChecks (code c) ++ bufferChecks (described c) m a (start c .args .symbols .now)
 
   abbrev Rest : ℕ → tie.After-code-refusal → Type 0
-  Rest k c = length m ≡ start c .args .message → length a ≡ start c .args .array → first (checks c) ≡ first (drop (length (codeChecks (code c)) + k) (checks c))
+  Rest k c = length m ≡ start c .args .message → length a ≡ start c .args .array
+      → first (checks c) ≡ first (drop (length (codeChecks (code c)) + k) (checks c))
 
   lengths-are : (c : tie.After-cells) → let s = start (passed c) .args in length m ≡ s .message → length a ≡ s .array
       → (wrongLength (total (s .lengths .now)) m || wrongLength (rows (code (passed c)) * columns (code (passed c))) a

@@ -17,7 +17,8 @@ described c =
     descriptionOf (start c .args .degree) (start c .args .points .now) (start c .args .factors .now) (start c .args .lengths .now)
 
 counts : (c : tie.Else1) → Counts (described (c .before) .code)
-counts c = counts-of-array (described (c .before)) (start (c .before) .args .received .now) (c .before .array-refusal .ensures) (c .if1 .left)
+counts c = counts-of-array (described (c .before)) (start (c .before) .args .received .now) (c .before .array-refusal .ensures)
+    (c .if1 .left)
 
 remaining-refusal-requires : tie.Need-remaining-refusal-requires
 remaining-refusal-requires c κs = let k = counts c in

@@ -22,11 +22,13 @@ slice-aggregate-shown c =
 
 slice-aggregate-shown-2 : tie.Need-slice-aggregate-shown-2
 slice-aggregate-shown-2 c =
-    fits (start (c .before .before) .args .flags .now) (omega (arith, start (c .before .before) .pre, c .before .before .before .few .ensures))
+    fits (start (c .before .before) .args .flags .now) (omega
+    (arith, start (c .before .before) .pre, c .before .before .before .few .ensures))
 
 slice-aggregate-shown-3 : tie.Need-slice-aggregate-shown-3
 slice-aggregate-shown-3 c =
-    fits (start (c .before .before .before) .args .space .now) (omega (arith, start (c .before .before .before) .pre, c .before .before .before .few2 .ensures))
+    fits (start (c .before .before .before) .args .space .now)
+    (omega (arith, start (c .before .before .before) .pre, c .before .before .before .few2 .ensures))
 
 pub lent-spec : {M : Type 1} → statement M
 lent-spec =

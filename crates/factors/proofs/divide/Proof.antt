@@ -63,7 +63,8 @@ multiply-rows-requires : tie.Need-multiply-rows-requires
 multiply-rows-requires c κs =
     let i = c .before .before .before .before in
     let d = s i .args .degree in
-    multiplying (s i .pre .0) (w i) (held (stored i)) (same i) (room (stored i)) (front (stored i)) (i .before .before .before .lend .ensures)
+    multiplying (s i .pre .0) (w i) (held (stored i)) (same i) (room (stored i)) (front (stored i))
+    (i .before .before .before .lend .ensures)
     (rw (inverted i) (inverses-in d (field d (s i .pre .0 .degree)) (fs i)))
 
 returns-2 : tie.Need-returns-2

@@ -62,7 +62,8 @@ turn c = c .before .before .before .before
 
 loop-again : tie.Need-loop-again Inv-loop μ-loop
 loop-again c = let t = turn c in
-    next-row (start t .args .degree) (start t .args .factors .now) (more t) (undone t) (start t .pre .room) (c .before .before .multiply .ensures)
+    next-row (start t .args .degree) (start t .args .factors .now) (more t) (undone t) (start t .pre .room)
+    (c .before .before .multiply .ensures)
 
 returns : tie.Need-returns Inv-loop μ-loop
 returns c =

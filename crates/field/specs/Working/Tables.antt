@@ -1,5 +1,6 @@
 -- What quotients are worked out from: the inverses of a field's symbols, and the powers of x that these are made of.
 --
+--   tableBytes     how long a table is, whichever the field
 --   power d i      x^i
 --   Powers d l     l begins with the powers of x, as many as the field has symbols
 --   IsTable d l    l has at each symbol but 0 its inverse
@@ -12,6 +13,9 @@ use mathlib.Core.List.{List}
 use lib.ListN.{length, getD}
 use Rattle.refusal.specs.Refusal.{badDegree}
 use Rattle.field.specs.Symbols.{timesX, Quotient}
+
+abbrev pub tableBytes : ℕ
+tableBytes = 256
 
 unfoldable pub power : ℕ → ℕ → ℕ
 power d zero = 1

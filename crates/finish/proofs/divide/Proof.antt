@@ -1,129 +1,140 @@
 -- `finish::divide` counts the roots among the points, and fills in the wrong columns where they are as many as the size.
 -- Assumes nothing.
 use mathlib.Core.Path.{_≡_, sym, ap, ap₂, _∙_}
+use mathlib.Core.List.{List}
 use Prim.Native.Nat.{ℕ, _≤_}
 use native.Mathlib.Omega.{arith}
-use lib.ListN.{length, replicate}
+use lib.ListN.{length, take, replicate}
 use lib.Seq.{length-take-le}
-use Rattle.codes.specs.Code.{Code, codeOf, total}
+use Rattle.codes.specs.Code.{Code, codeOf, columns, total}
 use Rattle.codes.proofs.Limits.{joint-less}
+use Rattle.ending.specs.Working.{Ready}
 use Rattle.ending.specs.Endings.{Buffers}
 use Rattle.ending.specs.declared.Ending.the-variants.{Corrected, Hollow}
 use Rattle.ending.proofs.WrongColumns.{rootCount}
-use Rattle.finish.proofs.Divided.{marks-count, flags-zero, zeros-roots, roots-room, fronts-are, divided-hollow, divided-corrected}
+use Rattle.finish.proofs.Divided.{Flagged, flagged, roots-room, fronts-are, divided-hollow, divided-corrected}
 use borrow.Author.Needs.{needs}
 use Rattle.finish.proofs.divide.Statement.{statement}
 use Rattle.finish.proofs.divide.Tie as tie
 
-abbrev code : tie.Start → Code
-code c = codeOf (c .args .degree) (c .args .points .now) (c .args .lengths .now)
+module _ (s : tie.Start) where
+  abbrev code : Code
+  code = codeOf (s .args .degree) (s .args .points .now) (s .args .lengths .now)
 
-room : (c : tie.Start) → length (c .args .points .now) ≤ length (c .args .flags .now)
-room c = omega (arith, c .pre .0 .counts .most-columns, c .pre .1 .1 .1 .1)
+  abbrev E : List ℕ
+  E = s .args .locator .now
 
--- the count of the flags is the number of roots
-roots : (c : tie.After-flag-zeros) → c .flag-zeros .result ≡ rootCount (code (c .before .before .before .before .before .before .before .before .before .before .before .before)) (c .before .before .before .before .before .before .before .before .before .before .before .before .args .locator .now)
-roots c = c .flag-zeros .ensures .0 ∙ ap total (zeros-roots (c .before .before .before .before .before .before .before .before .before .before .before .before .pre .0 .proper) (c .before .before .before .before .before .before .before .before .before .before .before .before .args .locator .now) (replicate 96 0) (c .before .before .before .before .before .before .before .before .before .before .before .before .args .flags .now) (c .before .before .before .before .values .ensures) (c .flag-zeros .ensures .1) (c .before .before .before .before .before .before .before .before .before .before .before .before .pre .0 .counts .most-columns) (room (c .before .before .before .before .before .before .before .before .before .before .before .before)))
+  abbrev y : List ℕ
+  y = s .args .received .now
 
-small : (c : tie.Start) → length (c .args .locator .now) ≤ length (c .args .points .now)
-small c = omega (arith, joint-less (c .pre .0 .proper) (c .pre .0 .counts), c .pre .1 .1 .0 .2)
+  ready : Ready code y
+  ready = s .pre .0
 
-slice-aggregate-values : tie.Need-slice-aggregate-values
-slice-aggregate-values c = search needs
+  few : columns code ≤ 96
+  few = ready .counts .most-columns
+
+  small : length E ≤ 96
+  small = omega (arith, few, joint-less (ready .proper) (ready .counts), s .pre .1 .1 .0 .2)
+
+  array-long : length (s .args .array .now) ≡ 384
+  array-long = s .pre .1 .1 .1 .0
+
+  flags-long : length (s .args .flags .now) ≡ 96
+  flags-long = s .pre .1 .1 .1 .1
+
+-- where the locator's values are stored
+module _ (c : tie.After-values) where
+  abbrev valued-from : tie.Start
+  valued-from = c .before .before .before .before .before .before .before .before
+
+  abbrev marks : List ℕ
+  marks = c .values .last .1 .1 .1 .1 .0
+
+  front : length (take (columns (code valued-from)) marks) ≡ columns (code valued-from)
+  front = length-take-le (columns (code valued-from)) marks (omega (arith, few valued-from, c .values .kept))
+
+-- where the flags are set
+module _ (c : tie.After-flag-zeros) where
+  abbrev valued : tie.After-values
+  valued = c .before .before .before .before
+
+  abbrev start : tie.Start
+  start = valued-from valued
+
+  abbrev flags : List ℕ
+  flags = c .flag-zeros .last .1 .0
+
+  flags-front : length (take (columns (code start)) flags) ≡ columns (code start)
+  flags-front = length-take-le _ flags (omega (arith, few start, flags-long start, c .flag-zeros .kept))
+
+  known : Flagged (code start) (E start) (marks valued) flags
+  known =
+      flagged (ready start .proper) (E start) (replicate 96 0) (start .args .flags .now) (valued .values .ensures)
+      (c .flag-zeros .ensures .1) (few start) (omega (arith, few start, flags-long start))
+
+  counted : c .flag-zeros .result ≡ rootCount (code start) (E start)
+  counted = c .flag-zeros .ensures .0 ∙ ap total (known .roots)
+
+-- where they are as many as the size
+abbrev full : tie.Else1 → tie.After-flag-zeros
+full c = c .before .before .before
+
+abbrev filling : tie.After-fill → tie.Else1
+filling c = c .before .before .before .before
 
 values-requires : tie.Need-values-requires
-values-requires c κs = let p = c .before .before .before .before .before .before .before .pre in
-    ((p .0 .counts .degree, p .1 .0), ((p .0 .proper .symbols, p .1 .1 .0 .0), (p .1 .1 .0 .1, omega (arith, small (c .before .before .before .before .before .before .before), p .0 .counts .most-columns), omega (arith, p .0 .counts .most-columns))))
-
-array-share-prefix-marks : tie.Need-array-share-prefix-marks
-array-share-prefix-marks c = search needs
-
-slice-aggregate-flag-zeros : tie.Need-slice-aggregate-flag-zeros
-slice-aggregate-flag-zeros c = sym (length-take-le _ (c .before .before .values .last .1 .1 .1 .1 .0) (omega (arith, c .before .before .before .before .before .before .before .before .before .before .pre .0 .counts .most-columns, c .before .before .values .kept)))
-
-flag-zeros-requires : tie.Need-flag-zeros-requires
-flag-zeros-requires c κs = let size = length-take-le (length (c .before .before .before .before .before .before .before .before .before .before .before .args .points .now)) (c .before .before .before .values .last .1 .1 .1 .1 .0) (omega (arith, c .before .before .before .before .before .before .before .before .before .before .before .pre .0 .counts .most-columns, c .before .before .before .values .kept)) in
-    omega (arith, c .before .before .before .before .before .before .before .before .before .before .before .pre .0 .counts .most-columns, c .before .before .before .before .before .before .before .before .before .before .before .pre .1 .1 .1 .1)
-
-sub-t : tie.Need-sub-t
-sub-t c = search needs
-
-cast-t21 : tie.Need-cast-t21
-cast-t21 c = omega (arith, small (c .before .before .before .before .before .before .before .before .before .before .before .before .before .before .before), c .before .before .before .before .before .before .before .before .before .before .before .before .before .before .before .pre .0 .counts .most-columns)
-
-same-length : tie.Need-same-length
-same-length c = search needs
+values-requires c κs =
+    let s = c .before .before .before .before .before .before .before in
+    let locator = s .pre .1 .1 .0 in (
+      (ready s .counts .degree, s .pre .1 .0),
+      ((ready s .proper .symbols, locator .0), (locator .1, omega (arith, small s), omega (arith, few s))),
+    )
 
 returns : tie.Need-returns
 returns c = λ lent t e.
-    let counted = roots (c .before .before .before) in
-    divided-hollow (code (c .before .before .before .before .before .before .before .before .before .before .before .before .before .before .before)) (c .before .before .before .before .before .before .before .before .before .before .before .before .before .before .before .args .received .now) lent t (c .before .before .before .before .before .before .before .before .before .before .before .before .before .before .before .args .locator .now) (λ h. c .if1 .taken (omega arith)) _
+    let f = c .before .before .before in
+    let h = counted f in
+    divided-hollow (code (start f)) (y (start f)) lent t (E (start f)) (λ q. c .if1 .taken (omega arith)) _
     ∙ ap (λ (k : ℕ). (Hollow k, lent)) (omega arith)
 
-slice-reshare-prefix-fill : tie.Need-slice-reshare-prefix-fill
-slice-reshare-prefix-fill c = search needs
-
-slice-aggregate-fill : tie.Need-slice-aggregate-fill
-slice-aggregate-fill c = sym (length-take-le _ (c .before .before .before .before .flag-zeros .last .1 .0) (omega (arith, c .before .before .before .before .before .before .before .before .before .before .before .before .before .before .before .before .pre .0 .counts .most-columns, c .before .before .before .before .before .before .before .before .before .before .before .before .before .before .before .before .pre .1 .1 .1 .1, c .before .before .before .before .flag-zeros .kept)))
-
-array-share-prefix-marks-2 : tie.Need-array-share-prefix-marks-2
-array-share-prefix-marks-2 c = search needs
-
-slice-aggregate-fill-2 : tie.Need-slice-aggregate-fill-2
-slice-aggregate-fill-2 c = sym (length-take-le _ (c .before .before .before .before .before .before .before .before .before .values .last .1 .1 .1 .1 .0) (omega (arith, c .before .before .before .before .before .before .before .before .before .before .before .before .before .before .before .before .before .pre .0 .counts .most-columns, c .before .before .before .before .before .before .before .before .before .values .kept)))
-
 fill-requires : tie.Need-fill-requires
-fill-requires c κs = let p = c .before .before .before .before .before .before .before .before .before .before .before .before .before .before .before .before .before .before .pre in
-    let e = c .before .before .before .before .before .before .before .before .before .before .before .before .before .before .before .before .before .before .args .locator .now in
-    let f = c .before .before .before .before .before .before .before .before .before .before .before .before .before .before .before .before .before .before .args .flags .now in
-    let counted = roots (c .before .before .before .before .before .before) in (
-      p .0,
-      (
-        (p .1 .0, p .1 .1 .1 .0),
-        (
-          flags-zero (p .0 .proper) e (replicate 96 0) f (c .before .before .before .before .before .before .before .before .before .before .values .ensures) (c .before .before .before .before .before .before .flag-zeros .ensures .1) (p .0 .counts .most-columns) (room (c .before .before .before .before .before .before .before .before .before .before .before .before .before .before .before .before .before .before)),
-          marks-count (p .0 .proper) e (replicate 96 0) f (c .before .before .before .before .before .before .before .before .before .before .values .ensures) (c .before .before .before .before .before .before .flag-zeros .ensures .1) (p .0 .counts .most-columns) (room (c .before .before .before .before .before .before .before .before .before .before .before .before .before .before .before .before .before .before)),
-          roots-room (p .0 .proper) e (replicate 96 0) f (c .before .before .before .before .before .before .before .before .before .before .values .ensures) (c .before .before .before .before .before .before .flag-zeros .ensures .1) (p .0 .counts .most-columns) (room (c .before .before .before .before .before .before .before .before .before .before .before .before .before .before .before .before .before .before)) (omega (arith, c .before .before .before .if1 .left, p .1 .1 .0)),
-        ),
-      ),
-    )
-
-cast-t29 : tie.Need-cast-t29
-cast-t29 c = omega (arith, small (c .before .before .before .before .before .before .before .before .before .before .before .before .before .before .before .before .before .before .before .before .before), c .before .before .before .before .before .before .before .before .before .before .before .before .before .before .before .before .before .before .before .before .before .pre .0 .counts .most-columns)
-
-same-length-2 : tie.Need-same-length-2
-same-length-2 c = search needs
-
-same-length-3 : tie.Need-same-length-3
-same-length-3 c = search needs
+fill-requires c κs =
+    let else = c .before .before .before in
+    let f = full else in
+    let s = start f in
+    let h = counted f in
+    let room = roots-room (known f) (ready s .proper) (omega (arith, else .if1 .left, s .pre .1 .1 .0)) in
+    (ready s, ((s .pre .1 .0, array-long s), (known f .flags, known f .count, room)))
 
 returns-2 : tie.Need-returns-2
 returns-2 c = λ lent t e.
-    let p = c .before .before .before .before .before .before .before .before .before .before .before .before .before .before .before .before .before .before .before .before .before .pre in
-    let counted = roots (c .before .before .before .before .before .before .before .before .before) in
-    divided-corrected (code (c .before .before .before .before .before .before .before .before .before .before .before .before .before .before .before .before .before .before .before .before .before)) (c .before .before .before .before .before .before .before .before .before .before .before .before .before .before .before .before .before .before .before .before .before .args .received .now) lent t (c .before .before .before .before .before .before .before .before .before .before .before .before .before .before .before .before .before .before .before .before .before .args .locator .now) (omega (arith, c .before .before .before .before .before .before .if1 .left)) _
+    let else = filling (c .before .before) in
+    let f = full else in
+    let s = start f in
+    let h = counted f in
+    divided-corrected (code s) (y s) lent t (E s) (omega (arith, else .if1 .left)) _
     ∙ ap₂ (λ (k : ℕ) (b : Buffers). (Corrected k, b)) (omega arith)
-    (fronts-are (p .0 .proper) (c .before .before .before .before .before .before .before .before .before .before .before .before .before .before .before .before .before .before .before .before .before .args .locator .now) (replicate 96 0) (c .before .before .before .before .before .before .before .before .before .before .before .before .before .before .before .before .before .before .before .before .before .args .flags .now) (c .before .before .before .before .before .before .before .before .before .before .before .before .before .values .ensures) (c .before .before .before .before .before .before .before .before .before .flag-zeros .ensures .1) (p .0 .counts .most-columns) (room (c .before .before .before .before .before .before .before .before .before .before .before .before .before .before .before .before .before .before .before .before .before)) (p .0 .counts) (p .0 .received) (c .before .before .before .before .before .before .before .before .before .before .before .before .before .before .before .before .before .before .before .before .before .args .array .now) (c .before .before .fill .ensures) (p .1 .1 .1 .0))
+    (fronts-are (known f) (ready s .counts) (ready s .received) (s .args .array .now) (c .before .before .fill .ensures) (array-long s))
 
 pub divide-spec : {M : Type 1} → statement M
 divide-spec =
     tie.close
     (tie.spec
-    slice-aggregate-values
+    (λ c. search needs)
     values-requires
-    array-share-prefix-marks
-    slice-aggregate-flag-zeros
-    flag-zeros-requires
-    sub-t
-    cast-t21
-    same-length
+    (λ c. search needs)
+    (λ c. sym (front (c .before .before)))
+    (λ c κs. let v = c .before .before .before in omega (arith, front v, few (valued-from v), flags-long (valued-from v)))
+    (λ c. search needs)
+    (λ c. omega (arith, small (start (c .before .before .before))))
+    (λ c. search needs)
     returns
-    slice-reshare-prefix-fill
-    slice-aggregate-fill
-    array-share-prefix-marks-2
-    slice-aggregate-fill-2
+    (λ c. search needs)
+    (λ c. sym (flags-front (full (c .before))))
+    (λ c. search needs)
+    (λ c. sym (front (valued (full (c .before .before)))))
     fill-requires
-    cast-t29
-    same-length-2
-    same-length-3
+    (λ c. omega (arith, small (start (full (filling (c .before .before))))))
+    (λ c. search needs)
+    (λ c. search needs)
     returns-2)

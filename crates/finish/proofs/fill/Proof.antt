@@ -1,86 +1,110 @@
 -- `finish::fill` gathers the points of the right columns and of the wrong ones.
 -- Assumes nothing.
 use mathlib.Core.Path.{_≡_, sym}
-use Prim.Native.Nat.{_≤_}
+use mathlib.Core.List.{List}
+use Prim.Native.Nat.{ℕ, _≤_}
 use native.Mathlib.Omega.{arith}
-use lib.ListN.{length, replicate}
+use lib.ListN.{length, take, replicate}
 use lib.Seq.{length-take-le}
 use Rattle.patch.proofs.Parts.{take-lay}
+use Rattle.codes.specs.Code.{codeOf}
 use Rattle.codes.specs.Lost.{right}
+use Rattle.finish.specs.Working.{Marked}
 use Rattle.finish.proofs.Marks.{right-most}
 use Rattle.finish.proofs.Filled.{flags-count}
 use borrow.Author.Needs.{needs}
 use Rattle.finish.proofs.fill.Statement.{statement}
 use Rattle.finish.proofs.fill.Tie as tie
 
-module _ (c : tie.Start) where
-  flags : length (c .args .flags .now) ≡ length (c .args .points .now)
-  flags = flags-count (c .args .points .now) (c .args .marks .now) (c .args .flags .now) (c .pre .1 .1 .0) (c .pre .1 .1 .1)
+module _ (s : tie.Start) where
+  abbrev xs : List ℕ
+  xs = s .args .points .now
 
-  good : length (right (c .args .flags .now) (c .args .points .now)) ≤ 96
-  good = omega (arith, right-most (c .args .flags .now) (c .args .points .now), flags, c .pre .0 .counts .most-columns)
+  abbrev fs : List ℕ
+  fs = s .args .flags .now
 
-  wrong : length (right (c .args .marks .now) (c .args .points .now)) ≤ 96
-  wrong = omega (arith, right-most (c .args .marks .now) (c .args .points .now), c .pre .1 .1 .1, c .pre .0 .counts .most-columns)
+  abbrev ms : List ℕ
+  ms = s .args .marks .now
 
-slice-aggregate-gather : tie.Need-slice-aggregate-gather
-slice-aggregate-gather c = search needs
+  few : length xs ≤ 96
+  few = s .pre .0 .counts .most-columns
+
+  marked : Marked (codeOf (s .args .degree) xs (s .args .lengths .now)) fs ms
+  marked = let m = s .pre .1 .1 in record { flags = m .0; count = m .1; room = m .2 }
+
+  flags : length fs ≡ length xs
+  flags = flags-count marked
+
+  right-few : length (right fs xs) ≤ 96
+  right-few = omega (arith, right-most fs xs, flags, few)
+
+  wrong-few : length (right ms xs) ≤ 96
+  wrong-few = omega (arith, right-most ms xs, marked .count, few)
+
+-- the points of the right columns
+module _ (c : tie.After-gather) where
+  abbrev gathered-from : tie.Start
+  gathered-from = c .before .before .before .before .before .before .before .before
+
+  abbrev good : List ℕ
+  good = c .gather .last .1 .1 .0
+
+  good-room : c .gather .result ≤ length good
+  good-room = omega (arith, right-few gathered-from, c .gather .ensures .0, c .gather .kept)
+
+  good-are : take (c .gather .result) good ≡ right (fs gathered-from) (xs gathered-from)
+  good-are =
+      take-lay (right (fs gathered-from) (xs gathered-from)) (replicate 96 0) (c .gather .ensures .1) (sym (c .gather .ensures .0))
+      (omega (arith, right-few gathered-from, c .gather .ensures .0))
+
+-- and of the wrong ones
+module _ (c : tie.After-gather2) where
+  abbrev gathered : tie.After-gather
+  gathered = c .before .before .before
+
+  abbrev start : tie.Start
+  start = gathered-from gathered
+
+  abbrev wrong : List ℕ
+  wrong = c .gather2 .last .1 .1 .0
+
+  wrong-room : c .gather2 .result ≤ length wrong
+  wrong-room = omega (arith, wrong-few start, c .gather2 .ensures .0, c .gather2 .kept)
+
+  wrong-are : take (c .gather2 .result) wrong ≡ right (ms start) (xs start)
+  wrong-are =
+      take-lay (right (ms start) (xs start)) (replicate 96 0) (c .gather2 .ensures .1) (sym (c .gather2 .ensures .0))
+      (omega (arith, wrong-few start, c .gather2 .ensures .0))
 
 gather-requires : tie.Need-gather-requires
-gather-requires c κs = (sym (flags (c .before .before .before .before .before .before .before)), omega (arith, flags (c .before .before .before .before .before .before .before), c .before .before .before .before .before .before .before .pre .0 .counts .most-columns))
-
-slice-aggregate-gather-2 : tie.Need-slice-aggregate-gather-2
-slice-aggregate-gather-2 c = search needs
-
-gather-requires-2 : tie.Need-gather-requires-2
-gather-requires-2 c κs = search needs
-
-array-share-prefix-good : tie.Need-array-share-prefix-good
-array-share-prefix-good c = omega (arith, good (c .before .before .before .before .before .before .before .before .before .before .before .before), c .before .before .before .before .gather .ensures .0, c .before .before .before .before .gather .kept)
-
-slice-aggregate-fill-wrong : tie.Need-slice-aggregate-fill-wrong
-slice-aggregate-fill-wrong c = sym (length-take-le _ (c .before .before .before .before .before .gather .last .1 .1 .0) (omega (arith, good (c .before .before .before .before .before .before .before .before .before .before .before .before .before), c .before .before .before .before .before .gather .ensures .0, c .before .before .before .before .before .gather .kept)))
-
-array-share-prefix-wrong : tie.Need-array-share-prefix-wrong
-array-share-prefix-wrong c = omega (arith, wrong (c .before .before .before .before .before .before .before .before .before .before .before .before .before), c .before .before .gather2 .ensures .0, c .before .before .gather2 .kept)
-
-slice-aggregate-fill-wrong-2 : tie.Need-slice-aggregate-fill-wrong-2
-slice-aggregate-fill-wrong-2 c = sym (length-take-le _ (c .before .before .before .gather2 .last .1 .1 .0) (omega (arith, wrong (c .before .before .before .before .before .before .before .before .before .before .before .before .before .before), c .before .before .before .gather2 .ensures .0, c .before .before .before .gather2 .kept)))
+gather-requires c κs =
+    let s = c .before .before .before .before .before .before .before in (sym (flags s), omega (arith, flags s, few s))
 
 fill-wrong-requires : tie.Need-fill-wrong-requires
-fill-wrong-requires c κs = let p = c .before .before .before .before .before .before .before .before .before .before .before .before .before .before .before .pre in
-    let a = c .before .before .before .before .before .before .before .before .before .before .before .before .before .before .before .args in (
-      p .0,
-      (
-        p .1 .0,
-        (
-          p .1 .1,
-          (
-            take-lay (right (a .flags .now) (a .points .now)) (replicate 96 0) (c .before .before .before .before .before .before .before .gather .ensures .1) (sym (c .before .before .before .before .before .before .before .gather .ensures .0)) (omega (arith, good (c .before .before .before .before .before .before .before .before .before .before .before .before .before .before .before), c .before .before .before .before .before .before .before .gather .ensures .0)),
-            take-lay (right (a .marks .now) (a .points .now)) (replicate 96 0) (c .before .before .before .before .gather2 .ensures .1) (sym (c .before .before .before .before .gather2 .ensures .0)) (omega (arith, wrong (c .before .before .before .before .before .before .before .before .before .before .before .before .before .before .before), c .before .before .before .before .gather2 .ensures .0)),
-          ),
-        ),
-      ),
-    )
-
-same-length : tie.Need-same-length
-same-length c = search needs
-
-returns : tie.Need-returns
-returns c = search needs
+fill-wrong-requires c κs =
+    let g = c .before .before .before .before in
+    let s = start g in
+    record {
+      ready = s .pre .0;
+      table = s .pre .1 .0 .0;
+      long = s .pre .1 .0 .1;
+      marked = marked s;
+      good = good-are (gathered g);
+      wrong = wrong-are g;
+    }
 
 pub fill-spec : {M : Type 1} → statement M
 fill-spec =
     tie.close
     (tie.spec
-    slice-aggregate-gather
+    (λ c. search needs)
     gather-requires
-    slice-aggregate-gather-2
-    gather-requires-2
-    array-share-prefix-good
-    slice-aggregate-fill-wrong
-    array-share-prefix-wrong
-    slice-aggregate-fill-wrong-2
+    (λ c. search needs)
+    (λ c κs. search needs)
+    (λ c. good-room (gathered (c .before)))
+    (λ c. sym (length-take-le _ (good (gathered (c .before .before))) (good-room (gathered (c .before .before)))))
+    (λ c. wrong-room (c .before .before))
+    (λ c. sym (length-take-le _ (wrong (c .before .before .before)) (wrong-room (c .before .before .before))))
     fill-wrong-requires
-    same-length
-    returns)
+    (λ c. search needs)
+    (λ c. search needs))

@@ -10,127 +10,168 @@ use Rattle.patch.specs.Parts.{lay}
 use Rattle.field.specs.Symbols.{IsSymbol}
 use Rattle.field.specs.Arithmetic.{gf}
 use Rattle.field.proofs.Instance.{field}
+use Rattle.field.proofs.Laws.{Field}
+use Rattle.poly.specs.Poly.{All}
 use Rattle.poly.proofs.Differences.{symbols-reduce}
+use Rattle.codes.specs.Lost.{right}
 use Rattle.codes.proofs.Parts.{all-take}
+use Rattle.codes.proofs.Right.{all-right}
 use Rattle.rows.proofs.Symbols.{symbols-held}
 use Rattle.rows.proofs.Sharing.{fewer-rounds}
-use Rattle.codes.specs.Lost.{right}
-use Rattle.codes.proofs.Right.{all-right}
+use Rattle.finish.specs.Working.{put, refilled}
 use Rattle.finish.proofs.Marks.{right-most}
-use Rattle.finish.proofs.Filled.{newton, row-filled}
+use Rattle.finish.proofs.Filled.{coefficients, newton, row-filled}
 use borrow.Author.Needs.{needs}
 use Rattle.finish.proofs.fill_row.Statement.{statement}
 use Rattle.finish.proofs.fill_row.Tie as tie
 
-module _ (c : tie.Start) where
-  abbrev gathered : List ℕ
-  gathered = right (c .args .flags .now) (c .args .row .now)
+module _ (s : tie.Start) where
+  abbrev d : ℕ
+  d = s .args .degree
 
-  most : length gathered ≤ 96
-  most = omega (arith, right-most (c .args .flags .now) (c .args .row .now), c .pre .1 .0 .2)
+  abbrev gs : List ℕ
+  gs = s .args .nodes .now
 
-  fits : length gathered ≤ 112
+  abbrev ws : List ℕ
+  ws = s .args .wrong .now
+
+  abbrev fs : List ℕ
+  fs = s .args .flags .now
+
+  abbrev ms : List ℕ
+  ms = s .args .marks .now
+
+  abbrev ys : List ℕ
+  ys = s .args .row .now
+
+  degree-field : Field (gf d)
+  degree-field = field d (s .pre .0 .0)
+
+  symbols : All (IsSymbol d) (right fs ys)
+  symbols = all-right (IsSymbol d) fs ys (s .pre .1 .0 .3)
+
+  most : length (right fs ys) ≤ 96
+  most = omega (arith, right-most fs ys, s .pre .1 .0 .2)
+
+  fits : length (right fs ys) ≤ 112
   fits = omega (arith, most)
 
-  rounds : length (c .args .nodes .now) ≡ suc (length (c .args .nodes .now) - 1)
-  rounds = omega (arith, c .pre .1 .1 .0 .0)
+  some : 1 ≤ length gs
+  some = s .pre .1 .1 .0 .0
 
-  few : length (c .args .nodes .now) ≤ 96
-  few = omega (arith, c .pre .1 .1 .0 .1, most)
+  rounds : length gs ≡ suc (length gs - 1)
+  rounds = omega (arith, some)
 
-slice-aggregate-gather : tie.Need-slice-aggregate-gather
-slice-aggregate-gather c = search needs
+  enough : length gs ≤ length (right fs ys)
+  enough = s .pre .1 .1 .0 .1
 
-gather-requires : tie.Need-gather-requires
-gather-requires c κs = search needs
+  few : length gs ≤ 96
+  few = omega (arith, enough, most)
 
-sub-reduce : tie.Need-sub-reduce
-sub-reduce c = omega (arith, c .before .before .before .before .before .before .before .before .before .before .pre .1 .1 .0 .0)
+  few-wrong : length ws ≤ 96
+  few-wrong = s .pre .1 .1 .0 .2
 
-slice-aggregate-reduce : tie.Need-slice-aggregate-reduce
-slice-aggregate-reduce c = search needs
+abbrev gathered-from : tie.After-gather → tie.Start
+gathered-from c = c .before .before .before .before .before .before .before .before .before
+
+-- where the right columns' symbols are reduced
+module _ (c : tie.After-reduce) where
+  abbrev gathered : tie.After-gather
+  gathered = c .before .before .before
+
+  abbrev start : tie.Start
+  start = gathered-from gathered
+
+  abbrev us : List ℕ
+  us = c .reduce .last .1 .1 .1 .1 .1 .0
+
+  long : length us ≡ 112
+  long = omega (arith, c .reduce .kept, gathered .gather .kept)
+
+  size : length (take (length (gs start)) us) ≡ length (gs start)
+  size = length-take-le (length (gs start)) us (omega (arith, few start, long))
+
+  is : take (length (gs start)) us ≡ coefficients (d start) (gs start) (fs start) (ys start)
+  is =
+      newton (d start) (degree-field start) (gs start) (ws start) (fs start) (ms start) (ys start) (replicate 112 0) us
+      (gathered .gather .ensures .1) (rounds start) (c .reduce .ensures) (enough start) (fits start)
+
+-- where the polynomial through them is evaluated at the wrong points
+module _ (c : tie.After-evaluate) where
+  abbrev reduced : tie.After-reduce
+  reduced = c .before .before .before .before
+
+  abbrev from : tie.Start
+  from = start reduced
+
+  abbrev vs : List ℕ
+  vs = c .evaluate .last .1 .1 .1 .1 .1 .0
+
+  values : length (take (length (ws from)) vs) ≡ length (ws from)
+  values = length-take-le _ vs (omega (arith, few-wrong from, c .evaluate .kept))
+
+  merged : put (ms from) (take (length (ws from)) vs) (ys from) ≡ refilled (d from) (gs from) (ws from) (fs from) (ms from) (ys from)
+  merged =
+      row-filled (d from) (degree-field from) (gs from) (ws from) (fs from) (ms from) (ys from) (replicate 112 0) (us reduced)
+      (gathered reduced .gather .ensures .1) (rounds from) (reduced .reduce .ensures) (enough from) (fits from)
+      (replicate 96 0) (c .evaluate .ensures) (omega (arith, few-wrong from))
 
 reduce-requires : tie.Need-reduce-requires
 reduce-requires c κs =
-    let start = c .before .before .before .before .before .before .before .before .before .before .before in
-    let d = start .args .degree in
-    let p = start .pre in (
-      (p .0 .0, p .0 .1, p .0 .2),
+    let g = c .before .before in
+    let s = gathered-from g in (
+      (s .pre .0 .0, s .pre .0 .1, s .pre .0 .2),
       (
-        (omega arith, few start, omega (arith, few start, c .before .before .gather .kept)),
+        (omega arith, few s, omega (arith, few s, g .gather .kept)),
         (
-          symbols-held d (gathered start) 112 (c .before .before .gather .ensures .1) (fits start) (omega (arith, few start))
-              (all-right (IsSymbol d) (start .args .flags .now) (start .args .row .now) (p .1 .0 .3)),
-          fewer-rounds _ _ (p .1 .1 .1 .2) (omega arith),
+          symbols-held (d s) (right (fs s) (ys s)) 112 (g .gather .ensures .1) (fits s) (omega (arith, few s)) (symbols s),
+          fewer-rounds _ _ (s .pre .1 .1 .1 .2) (omega arith),
         ),
       ),
     )
-
-array-share-prefix-us : tie.Need-array-share-prefix-us
-array-share-prefix-us c = omega (arith, few (c .before .before .before .before .before .before .before .before .before .before .before .before .before), c .before .reduce .kept, c .before .before .before .before .gather .kept)
-
-slice-aggregate-evaluate : tie.Need-slice-aggregate-evaluate
-slice-aggregate-evaluate c = sym (length-take-le _ (c .before .before .reduce .last .1 .1 .1 .1 .1 .0) (omega (arith, few (c .before .before .before .before .before .before .before .before .before .before .before .before .before .before), c .before .before .reduce .kept, c .before .before .before .before .before .gather .kept)))
-
-slice-aggregate-evaluate-2 : tie.Need-slice-aggregate-evaluate-2
-slice-aggregate-evaluate-2 c = search needs
 
 evaluate-requires : tie.Need-evaluate-requires
-evaluate-requires c κs = let p = c .before .before .before .before .before .before .before .before .before .before .before .before .before .before .before .pre in
-    let d = c .before .before .before .before .before .before .before .before .before .before .before .before .before .before .before .args .degree in
-    let k : ℕ = length (c .before .before .before .before .before .before .before .before .before .before .before .before .before .before .before .args .nodes .now) in
-    let 𝓕 = field d (p .0 .0) in
-    let us = c .before .before .before .reduce .last .1 .1 .1 .1 .1 .0 in
-    let size : length (take k us) ≡ k = length-take-le k us (omega (arith, few (c .before .before .before .before .before .before .before .before .before .before .before .before .before .before .before), c .before .before .before .reduce .kept, c .before .before .before .before .before .before .gather .kept)) in
-    let is = newton d 𝓕 (c .before .before .before .before .before .before .before .before .before .before .before .before .before .before .before .args .nodes .now) (c .before .before .before .before .before .before .before .before .before .before .before .before .before .before .before .args .wrong .now) (c .before .before .before .before .before .before .before .before .before .before .before .before .before .before .before .args .flags .now) (c .before .before .before .before .before .before .before .before .before .before .before .before .before .before .before .args .marks .now) (c .before .before .before .before .before .before .before .before .before .before .before .before .before .before .before .args .row .now) (replicate 112 0) us (c .before .before .before .before .before .before .gather .ensures .1) (rounds (c .before .before .before .before .before .before .before .before .before .before .before .before .before .before .before)) (c .before .before .before .reduce .ensures) (p .1 .1 .0 .1) (fits (c .before .before .before .before .before .before .before .before .before .before .before .before .before .before .before)) in (
-      (p .0 .0, p .0 .1),
+evaluate-requires c κs =
+    let r = c .before .before .before in
+    let s = start r in
+    let k : ℕ = length (gs s) in
+    let kept = all-take (IsSymbol (d s)) k (right (fs s) (ys s)) (symbols s) in
+    let count = size r in (
+      (s .pre .0 .0, s .pre .0 .1),
       (
-        (
-          p .0 .3,
-          p .0 .2 .symbols,
-          rw is (symbols-reduce (gf d) 𝓕 k (c .before .before .before .before .before .before .before .before .before .before .before .before .before .before .before .args .nodes .now) (take k (gathered (c .before .before .before .before .before .before .before .before .before .before .before .before .before .before .before)))
-              (all-take (IsSymbol d) k (gathered (c .before .before .before .before .before .before .before .before .before .before .before .before .before .before .before)) (all-right (IsSymbol d) (c .before .before .before .before .before .before .before .before .before .before .before .before .before .before .before .args .flags .now) (c .before .before .before .before .before .before .before .before .before .before .before .before .before .before .before .args .row .now) (p .1 .0 .3)))),
-        ),
-        (omega (arith, p .1 .1 .0 .0), omega arith, omega (arith, p .1 .1 .0 .2)),
+        (s .pre .0 .3, s .pre .0 .2 .symbols, rw (is r) (symbols-reduce (gf (d s)) (degree-field s) k (gs s) _ kept)),
+        (omega (arith, some s), omega arith, omega (arith, few-wrong s)),
       ),
     )
 
-array-share-prefix-vs : tie.Need-array-share-prefix-vs
-array-share-prefix-vs c = search needs
-
-slice-aggregate-merge : tie.Need-slice-aggregate-merge
-slice-aggregate-merge c = sym (length-take-le _ (c .before .before .evaluate .last .1 .1 .1 .1 .1 .0) (omega (arith, c .before .before .before .before .before .before .before .before .before .before .before .before .before .before .before .before .before .before .pre .1 .1 .0 .2, c .before .before .evaluate .kept)))
-
 merge-requires : tie.Need-merge-requires
-merge-requires c κs = let p = c .before .before .before .before .before .before .before .before .before .before .before .before .before .before .before .before .before .before .before .pre in
-    let size = length-take-le (length (c .before .before .before .before .before .before .before .before .before .before .before .before .before .before .before .before .before .before .before .args .wrong .now)) (c .before .before .before .evaluate .last .1 .1 .1 .1 .1 .0) (omega (arith, p .1 .1 .0 .2, c .before .before .before .evaluate .kept)) in
-    (omega (arith, p .1 .1 .1 .0), p .1 .0 .0 ∙ sym (p .1 .0 .1), omega (arith, p .1 .1 .1 .1, p .1 .0 .1))
-
-same-length : tie.Need-same-length
-same-length c = search needs
+merge-requires c κs =
+    let e = c .before .before .before in
+    let p = from e .pre .1 in
+    let count = values e in
+    (omega (arith, p .1 .1 .0), p .0 .0 ∙ sym (p .0 .1), omega (arith, p .1 .1 .1, p .0 .1))
 
 returns : tie.Need-returns
-returns c = let p = c .before .before .before .before .before .before .before .before .before .before .before .before .before .before .before .before .before .before .before .before .before .before .pre in
-    let a = c .before .before .before .before .before .before .before .before .before .before .before .before .before .before .before .before .before .before .before .before .before .before .args in
-    c .before .before .merge .ensures
-    ∙ ap (λ (v : List ℕ). lay (a .at) v (a .s .now))
-    (row-filled (a .degree) (field (a .degree) (p .0 .0)) (a .nodes .now) (a .wrong .now) (a .flags .now) (a .marks .now) (a .row .now) (replicate 112 0) _ (c .before .before .before .before .before .before .before .before .before .before .before .before .before .gather .ensures .1) (rounds (c .before .before .before .before .before .before .before .before .before .before .before .before .before .before .before .before .before .before .before .before .before .before)) (c .before .before .before .before .before .before .before .before .before .before .reduce .ensures) (p .1 .1 .0 .1) (fits (c .before .before .before .before .before .before .before .before .before .before .before .before .before .before .before .before .before .before .before .before .before .before)) (replicate 96 0) (c .before .before .before .before .before .before .evaluate .ensures) (omega (arith, p .1 .1 .0 .2)))
+returns c =
+    let e = c .before .before .before .before .before .before in
+    let a = from e .args in
+    c .before .before .merge .ensures ∙ ap (λ (v : List ℕ). lay (a .at) v (a .s .now)) (merged e)
 
 pub fill-row-spec : {M : Type 1} → statement M
 fill-row-spec =
     tie.close
     (tie.spec
-    slice-aggregate-gather
-    gather-requires
-    sub-reduce
-    slice-aggregate-reduce
+    (λ c. search needs)
+    (λ c κs. search needs)
+    (λ c. omega (arith, some (gathered-from (c .before))))
+    (λ c. search needs)
     reduce-requires
-    array-share-prefix-us
-    slice-aggregate-evaluate
-    slice-aggregate-evaluate-2
+    (λ c. omega (arith, few (start (c .before)), long (c .before)))
+    (λ c. sym (size (c .before .before)))
+    (λ c. search needs)
     evaluate-requires
-    array-share-prefix-vs
-    slice-aggregate-merge
+    (λ c. search needs)
+    (λ c. sym (values (c .before .before)))
     merge-requires
-    same-length
+    (λ c. search needs)
     returns)

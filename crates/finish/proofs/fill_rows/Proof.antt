@@ -1,8 +1,8 @@
 -- `finish::fill_rows` fills in one row after the other.
 -- Assumes nothing.
-use mathlib.Core.Path.{_≡_, sym, ap, _∙_}
+use mathlib.Core.Path.{_≡_, refl, sym, ap, _∙_}
 use mathlib.Core.List.{List}
-use Prim.Native.Nat.{ℕ, _+_, _-_, _≤_}
+use Prim.Native.Nat.{ℕ, _+_, _*_, _-_, _≤_, _<_}
 use native.Mathlib.Omega.{arith}
 use lib.ListN.{length, getD, take, drop, drop-of-length-le}
 use lib.Seq.{length-take-le, take-take}
@@ -12,13 +12,14 @@ use Rattle.field.specs.Symbols.{IsSymbol}
 use Rattle.field.specs.Arithmetic.{gf}
 use Rattle.rows.specs.Working.Rows.{Inverses}
 use Rattle.rows.proofs.Sharing.{fewer-rounds, fewer-points}
-use Rattle.codes.specs.Code.{largest}
+use Rattle.codes.specs.Code.{codeOf, largest}
 use Rattle.codes.proofs.Parts.{all-take, all-drop}
 use Rattle.codes.proofs.Passed.{up-to-largest}
-use Rattle.ending.proofs.Model.{filledRows}
+use Rattle.ending.proofs.Model.{filledIn, filledRows}
 use Rattle.conditions.proofs.Places.{RowAt, next-row, row-room, row-size}
 use Rattle.conditions.proofs.Reduced.{row-within}
 use Rattle.codes.proofs.Right.{all-right}
+use Rattle.finish.specs.Working.{refilled, Filling}
 use Rattle.finish.proofs.Marks.{right-most}
 use Rattle.finish.proofs.Filled.{row-is, filled-more, flags-count, wrong-count, enough-right, longest-right, right-points}
 use borrow.Author.Needs.{needs}
@@ -26,136 +27,171 @@ use Rattle.finish.proofs.fill_rows.Statement.{statement}
 use Rattle.finish.proofs.fill_rows.Tie as tie
 
 abbrev Inv-loop : tie.InvT-loop
-Inv-loop table degree lengths points good wrong flags marks ws received s₀ at₀ l₀ s at l = RowAt (length points) lengths l at × (length s ≡ 384) × (lay at (filledRows (gf degree) flags points (drop l lengths) (drop at received)) s ≡ lay 0 (filledRows (gf degree) flags points lengths received) s₀)
+Inv-loop table degree lengths points good wrong flags marks ws received s₀ at₀ l₀ s at l =
+    RowAt (length points) lengths l at × (length s ≡ 384)
+    × (lay at (filledRows (gf degree) flags points (drop l lengths) (drop at received)) s
+    ≡ lay 0 (filledRows (gf degree) flags points lengths received) s₀)
 
 abbrev μ-loop : tie.MeasureT-loop
 μ-loop table degree lengths points good wrong flags marks ws received s₀ at₀ l₀ s at l = length lengths - l
 
+module _ (s : tie.Start Inv-loop μ-loop) where
+  abbrev d : ℕ
+  d = s .args .degree
+
+  abbrev ks : List ℕ
+  ks = s .args .lengths .now
+
+  abbrev xs : List ℕ
+  xs = s .args .points .now
+
+  abbrev gs : List ℕ
+  gs = s .args .good .now
+
+  abbrev ws : List ℕ
+  ws = s .args .wrong .now
+
+  abbrev fs : List ℕ
+  fs = s .args .flags .now
+
+  abbrev ms : List ℕ
+  ms = s .args .marks .now
+
+  abbrev y : List ℕ
+  y = s .args .received .now
+
+  asked : Filling (codeOf d xs ks) (s .args .table .now) gs ws fs ms y (s .args .s .now)
+  asked = s .pre .0
+
+  few-wrong : length ws ≤ 96
+  few-wrong = omega (arith, ap length (asked .wrong), right-most ms xs, asked .marked .count, asked .ready .counts .most-columns)
+
+abbrev entered : tie.At-loop Inv-loop μ-loop → tie.Start Inv-loop μ-loop
+entered c = c .before .before .before .before .before .before .before .before .before .before
+
+-- the row that a turn fills in
 module _ (c : tie.In-loop Inv-loop μ-loop) where
   abbrev start : tie.Start Inv-loop μ-loop
-  start = c .before .before .before .before .before .before .before .before .before .before .before
+  start = entered (c .before)
+
+  abbrev l : ℕ
+  l = c .before .loop .l
+
+  abbrev at : ℕ
+  at = c .before .loop .at
 
   abbrev k : ℕ
-  k = getD (start .args .lengths .now) (c .before .loop .l) 0
+  k = getD (ks start) l 0
+
+  abbrev row : List ℕ
+  row = take (length (xs start)) (drop at (y start))
+
+  place : RowAt (length (xs start)) (ks start) l at
+  place = c .before .loop .inv .0
+
+  more : l < length (ks start)
+  more = c .loop-test .taken
+
+  room-left : at + length (xs start) ≤ length (ks start) * length (xs start)
+  room-left = row-room (length (xs start)) (ks start) place more
+
+  whole : length row ≡ length (xs start)
+  whole = row-size (length (xs start)) (ks start) place more (y start) (asked start .ready .received .count)
 
   within : 1 ≤ k
-  within = row-within (start .args .points .now) (start .args .degree) (start .args .lengths .now) (start .pre .0 .counts) (c .before .loop .l) (c .loop-test .taken) .0
+  within = row-within (xs start) (d start) (ks start) (asked start .ready .counts) l more .0
 
-  enough : k ≤ length (start .args .good .now)
-  enough =
-      let p = start .pre .1 .1 in
-      omega (arith, ap length (p .1 .0), enough-right (start .args .points .now) (start .args .marks .now) (start .args .flags .now) (p .0 .0) (p .0 .1) (start .args .lengths .now) (p .0 .2) (start .args .points .now) (omega arith) (c .before .loop .l) (c .loop-test .taken))
+  enough : k ≤ length (gs start)
+  enough = omega (arith, ap length (asked start .good), enough-right (asked start .marked) (xs start) refl l more)
 
   -- the inverses of the longest row's rounds serve every row
-  lent : {m : ℕ} → m ≡ k → Inverses (start .args .degree) (take m (start .args .good .now)) m (start .args .ws .now)
+  lent : {m : ℕ} → m ≡ k → Inverses (d start) (take m (gs start)) m (start .args .ws .now)
   lent {m} e =
-      let xs = start .args .good .now in
-      let most = largest (start .args .lengths .now) in
-      let few : k ≤ most = up-to-largest (start .args .lengths .now) (c .before .loop .l) (c .loop-test .taken) in
-      let p = start .pre .1 .1 in
-      let long : most ≤ length xs = longest-right (start .args .points .now) (start .args .marks .now) (start .args .flags .now) (p .0 .0) (p .0 .1) (start .args .lengths .now) (p .0 .2) (p .1 .0) in
-      let size : length (take most xs) ≡ most = length-take-le most xs long in
-      rw e (rw (take-take k most xs few) at (fewer-rounds _ _ (fewer-points _ _ (start .pre .1 .1 .1 .2) k (omega arith)) few))
+      let most : ℕ = largest (ks start) in
+      let few : k ≤ most = up-to-largest (ks start) l more in
+      let size : length (take most (gs start)) ≡ most =
+      length-take-le most (gs start) (longest-right (asked start .marked) (asked start .good)) in
+      let fewer = fewer-points _ _ (start .pre .1) k (omega arith) in
+      rw e (rw (take-take k most (gs start) few) at (fewer-rounds _ _ fewer few))
 
-loop-holds : tie.Need-loop-holds Inv-loop μ-loop
-loop-holds c = search needs
+  same : refilled (d start) (take k (gs start)) (ws start) (fs start) (ms start) row ≡ filledIn (gf (d start)) k (fs start) (xs start) row
+  same =
+      row-is (d start) k (ms start) (xs start) row (ap (take k) (asked start .good)) (asked start .wrong) (asked start .marked .flags)
+      (asked start .marked .count) whole (enough-right (asked start .marked) (xs start) refl l more)
 
-shared-slice-read-wide : tie.Need-shared-slice-read-wide Inv-loop μ-loop
-shared-slice-read-wide c = search needs
+  more-filled : {t : List ℕ} → t ≡ lay at (filledIn (gf (d start)) k (fs start) (xs start) row) (c .before .loop .s)
+      → lay (at + length (xs start))
+      (filledRows (gf (d start)) (fs start) (xs start) (drop (l + 1) (ks start)) (drop (at + length (xs start)) (y start))) t
+      ≡ lay 0 (filledRows (gf (d start)) (fs start) (xs start) (ks start) (y start)) (start .args .s .now)
+  more-filled is =
+      filled-more (d start) (fs start) (xs start) (flags-count (asked start .marked)) (ks start) (y start)
+      (asked start .ready .received .count) place more (c .before .loop .s) is
+      (omega (arith, asked start .ready .counts .cells, c .before .loop .inv .1))
+      ∙ c .before .loop .inv .2
 
-wide-requires : tie.Need-wide-requires Inv-loop μ-loop
-wide-requires c κs = search needs
+-- its length, as the code reads it
+module _ (c : tie.After-wide Inv-loop μ-loop) where
+  abbrev turn : tie.In-loop Inv-loop μ-loop
+  turn = c .before .before
 
-slice-aggregate-fill-row : tie.Need-slice-aggregate-fill-row Inv-loop μ-loop
-slice-aggregate-fill-row c = sym (length-take-le _ (c .before .before .before .before .before .before .before .before .before .before .before .before .before .before .args .good .now) (omega (arith, enough (c .before .before .before), c .before .wide .ensures)))
-
-add-fill-row : tie.Need-add-fill-row Inv-loop μ-loop
-add-fill-row c = search needs
-
-sub-fill-row : tie.Need-sub-fill-row Inv-loop μ-loop
-sub-fill-row c = search needs
-
-part-fill-row-start : tie.Need-part-fill-row-start Inv-loop μ-loop
-part-fill-row-start c = search needs
-
-part-fill-row-end : tie.Need-part-fill-row-end Inv-loop μ-loop
-part-fill-row-end c = omega (arith, row-room _ _ (c .before .before .before .before .loop .inv .0) (c .before .before .before .loop-test .taken), c .before .before .before .before .before .before .before .before .before .before .before .before .before .before .pre .0 .received .count)
+  nodes : length (take (c .wide .result) (gs (start turn))) ≡ c .wide .result
+  nodes = length-take-le (c .wide .result) (gs (start turn)) (omega (arith, enough turn, c .wide .ensures))
 
 fill-row-requires : tie.Need-fill-row-requires Inv-loop μ-loop
-fill-row-requires c κs = let turn = c .before .before .before .before .before .before .loop in
-    let p = start (c .before .before .before .before .before) .pre in
-    let a = start (c .before .before .before .before .before) .args in
-    let d = a .degree in
-    let n : ℕ = length (a .points .now) in
-    let y = a .received .now in
-    let flags = flags-count (a .points .now) (a .marks .now) (a .flags .now) (p .1 .1 .0 .0) (p .1 .1 .0 .1) in
-    let wrong = p .1 .1 .1 .1 in
-    let size : length (take (c .before .before .before .wide .result) (a .good .now)) ≡ c .before .before .before .wide .result = length-take-le (c .before .before .before .wide .result) (a .good .now) (omega (arith, enough (c .before .before .before .before .before), c .before .before .before .wide .ensures)) in
-    let all : turn .at + n - turn .at ≡ n = omega arith in
-    let row = row-size n (a .lengths .now) (turn .inv .0) (c .before .before .before .before .before .loop-test .taken) y (p .0 .received .count) in (
+fill-row-requires c κs =
+    let w = c .before .before .before in
+    let t = turn w in
+    let s = start t in
+    let n : ℕ = length (xs s) in
+    let part : at t + n - at t ≡ n = omega arith in
+    let flags : length (fs s) ≡ n = flags-count (asked s .marked) in (
       (
-        p .0 .counts .degree,
-        p .1 .0 .0,
-        rw (p .1 .1 .1 .0) (right-points (a .points .now) (a .marks .now) (a .flags .now) (p .1 .1 .0 .0) (p .1 .1 .0 .1) (record { symbols = p .0 .proper .symbols; distinct = p .0 .proper .distinct }) (c .before .before .before .wide .result)),
-        rw wrong (all-right (IsSymbol d) (a .marks .now) (a .points .now) (p .0 .proper .symbols)),
+        asked s .ready .counts .degree,
+        asked s .table,
+        right-points (asked s .marked) (asked s .good) (asked s .ready .proper) (w .wide .result),
+        rw (asked s .wrong) (all-right (IsSymbol (d s)) (ms s) (xs s) (asked s .ready .proper .symbols)),
       ),
       (
         (
-          rw all (row ∙ sym flags),
-          p .1 .1 .0 .1 ∙ sym flags,
-          omega (arith, p .0 .counts .most-columns),
-          all-take (IsSymbol d) (turn .at + n - turn .at) (drop (turn .at) y) (all-drop (IsSymbol d) (turn .at) y (p .0 .received .symbols)),
+          rw part (whole t ∙ sym flags),
+          asked s .marked .count ∙ sym flags,
+          omega (arith, asked s .ready .counts .most-columns),
+          all-take (IsSymbol (d s)) (at t + n - at t) (drop (at t) (y s))
+              (all-drop (IsSymbol (d s)) (at t) (y s) (asked s .ready .received .symbols)),
         ),
         (
           (
-            omega (arith, within (c .before .before .before .before .before), c .before .before .before .wide .ensures),
-            rw (size, all) (omega (arith, c .before .before .before .wide .ensures, enough-right (a .points .now) (a .marks .now) (a .flags .now) (p .1 .1 .0 .0) (p .1 .1 .0 .1) (a .lengths .now) (p .1 .1 .0 .2) (take n (drop (turn .at) y)) row (turn .l) (c .before .before .before .before .before .loop-test .taken))),
-            rw wrong (omega (arith, right-most (a .marks .now) (a .points .now), p .1 .1 .0 .1, p .0 .counts .most-columns)),
+            omega (arith, nodes w, within t, w .wide .ensures),
+            rw (nodes w, part) (omega (arith, w .wide .ensures, enough-right (asked s .marked) (row t) (whole t) (l t) (more t))),
+            few-wrong s,
           ),
           (
-            rw wrong (wrong-count (a .points .now) (a .marks .now) (a .flags .now) (p .1 .1 .0 .0) (p .1 .1 .0 .1)),
-            omega (arith, row-room n (a .lengths .now) (turn .inv .0) (c .before .before .before .before .before .loop-test .taken), p .0 .counts .cells, turn .inv .1),
-            rw size (lent (c .before .before .before .before .before) (c .before .before .before .wide .ensures)),
+            rw (asked s .wrong) (wrong-count (asked s .marked)),
+            omega (arith, room-left t, asked s .ready .counts .cells, t .before .loop .inv .1),
+            rw (nodes w) (lent t (w .wide .ensures)),
           ),
         ),
       ),
     )
-
-add-at : tie.Need-add-at Inv-loop μ-loop
-add-at c = search needs
-
-add-l : tie.Need-add-l Inv-loop μ-loop
-add-l c = search needs
-
-loop-less : tie.Need-loop-less Inv-loop μ-loop
-loop-less c = search needs
 
 loop-again : tie.Need-loop-again Inv-loop μ-loop
-loop-again c = let turn = c .before .before .before .before .before .before .before .before .before .loop in
-    let more = c .before .before .before .before .before .before .before .before .loop-test .taken in
-    let p = start (c .before .before .before .before .before .before .before .before) .pre in
-    let a = start (c .before .before .before .before .before .before .before .before) .args in
-    let n : ℕ = length (a .points .now) in
-    let y = a .received .now in
-    let e = c .before .before .before .before .before .before .wide .ensures in
-    let all : turn .at + n - turn .at ≡ n = omega arith in
-    let row = row-size n (a .lengths .now) (turn .inv .0) more y (p .0 .received .count) in
-    let flags = flags-count (a .points .now) (a .marks .now) (a .flags .now) (p .1 .1 .0 .0) (p .1 .1 .0 .1) in
-    let same = row-is (a .degree) (getD (a .lengths .now) (turn .l) 0) (a .marks .now) (a .points .now) (take n (drop (turn .at) y)) (ap (take (getD (a .lengths .now) (turn .l) 0)) (p .1 .1 .1 .0)) (p .1 .1 .1 .1) (p .1 .1 .0 .0) (p .1 .1 .0 .1) row
-    (enough-right (a .points .now) (a .marks .now) (a .flags .now) (p .1 .1 .0 .0) (p .1 .1 .0 .1) (a .lengths .now) (p .1 .1 .0 .2) (a .points .now) (omega arith) (turn .l) more) in
-    let stored = rw (e, all) at (c .before .before .fill-row .ensures) in (
-      next-row n (a .lengths .now) (turn .inv .0) more,
-      omega (arith, c .before .before .fill-row .kept, turn .inv .1),
-      filled-more (a .degree) (a .flags .now) (a .points .now) flags (a .lengths .now) y (p .0 .received .count) (turn .inv .0) more (turn .s) (stored ∙ ap (λ (v : List ℕ). lay (turn .at) v (turn .s)) same) (omega (arith, p .0 .counts .cells, turn .inv .1)) ∙ turn .inv .2,
+loop-again c =
+    let f = c .before .before in
+    let w = f .before .before .before .before in
+    let t = turn w in
+    let s = start t in
+    let part : at t + length (xs s) - at t ≡ length (xs s) = omega arith in
+    let stored = rw (w .wide .ensures, part) at (f .fill-row .ensures) in (
+      next-row (length (xs s)) (ks s) (place t) (more t),
+      omega (arith, f .fill-row .kept, t .before .loop .inv .1),
+      more-filled t (stored ∙ ap (λ (v : List ℕ). lay (at t) v (t .before .loop .s)) (same t)),
     )
-
-same-length : tie.Need-same-length Inv-loop μ-loop
-same-length c = search needs
 
 returns : tie.Need-returns Inv-loop μ-loop
 unfolding filledRows
-returns c = let turn = c .before .loop in
-    let none = drop-of-length-le (c .before .before .before .before .before .before .before .before .before .before .before .args .lengths .now) (c .loop-test .left) in
+returns c =
+    let turn = c .before .loop in
+    let none = drop-of-length-le (ks (entered (c .before))) (c .loop-test .left) in
     sym (lay-none (turn .at) (turn .s)) ∙ rw none at (turn .inv .2)
 
 pub fill-rows-spec : {M : Type 1} → statement M
@@ -164,18 +200,18 @@ fill-rows-spec =
     (tie.spec
     Inv-loop
     μ-loop
-    loop-holds
-    shared-slice-read-wide
-    wide-requires
-    slice-aggregate-fill-row
-    add-fill-row
-    sub-fill-row
-    part-fill-row-start
-    part-fill-row-end
+    (λ c. search needs)
+    (λ c. search needs)
+    (λ c κs. search needs)
+    (λ c. sym (nodes (c .before)))
+    (λ c. search needs)
+    (λ c. search needs)
+    (λ c. search needs)
+    (λ c. let t = turn (c .before) in omega (arith, room-left t, asked (start t) .ready .received .count))
     fill-row-requires
-    add-at
-    add-l
-    loop-less
+    (λ c. search needs)
+    (λ c. search needs)
+    (λ c. search needs)
     loop-again
-    same-length
+    (λ c. search needs)
     returns)

@@ -13,62 +13,46 @@ use borrow.Author.Needs.{needs}
 use Rattle.finish.proofs.fill_wrong.Statement.{statement}
 use Rattle.finish.proofs.fill_wrong.Tie as tie
 
-long : (c : tie.Start) → largest (c .args .lengths .now) ≤ length (c .args .good .now)
-long c =
-    let p = c .pre .1 .1 in
-    longest-right (c .args .points .now) (c .args .marks .now) (c .args .flags .now) (p .0 .0) (p .0 .1) (c .args .lengths .now) (p .0 .2) (p .1 .0)
+few : (s : tie.Start) → largest (s .args .lengths .now) ≤ 96
+few s = omega (arith, largest-most _ (s .args .lengths .now) (s .pre .ready .proper .lengths), s .pre .ready .counts .most-columns)
 
-largest-requires : tie.Need-largest-requires
-largest-requires c κs = search needs
+module _ (c : tie.After-largest) where
+  abbrev start : tie.Start
+  start = c .before .before .before .before .before .before .before .before .before
 
-slice-aggregate-all-inverses : tie.Need-slice-aggregate-all-inverses
-slice-aggregate-all-inverses c =
-    let start = c .before .before .before .before .before .before .before .before .before .before in
-    sym (length-take-le _ (start .args .good .now) (omega (arith, long start, c .before .largest .ensures)))
+  abbrev k : ℕ
+  k = c .largest .result
 
-slice-aggregate-all-inverses-2 : tie.Need-slice-aggregate-all-inverses-2
-slice-aggregate-all-inverses-2 c = search needs
+  size : length (take k (start .args .good .now)) ≡ k
+  size =
+      length-take-le k (start .args .good .now)
+      (omega (arith, longest-right (start .pre .marked) (start .pre .good), c .largest .ensures))
 
 all-inverses-requires : tie.Need-all-inverses-requires
 all-inverses-requires c κs =
-    let start = c .before .before .before .before .before .before .before .before .before .before .before in
-    let a = start .args in
-    let p = start .pre in
-    let k : ℕ = c .before .before .largest .result in
-    let e = c .before .before .largest .ensures in
-    let most = largest-most (length (a .points .now)) (a .lengths .now) (p .0 .proper .lengths) in
-    let size : length (take k (a .good .now)) ≡ k = length-take-le k (a .good .now) (omega (arith, long start, e)) in (
-      (
-        p .0 .counts .degree,
-        p .1 .0 .0,
-        rw (p .1 .1 .1 .0) (right-points (a .points .now) (a .marks .now) (a .flags .now) (p .1 .1 .0 .0) (p .1 .1 .0 .1) (record { symbols = p .0 .proper .symbols; distinct = p .0 .proper .distinct }) k),
-      ),
-      ((omega arith, omega (arith, most, e, p .0 .counts .most-columns), omega (arith, most, e, p .0 .counts .most-columns)), symbols-zeros (a .degree) 9216),
+    let m = c .before .before in
+    let s = start m in
+    let e = m .largest .ensures in
+    let count = size m in (
+      (s .pre .ready .counts .degree, s .pre .table, right-points (s .pre .marked) (s .pre .good) (s .pre .ready .proper) (k m)),
+      ((omega arith, omega (arith, few s, e), omega (arith, few s, e)), symbols-zeros (s .args .degree) 9216),
     )
-
-slice-aggregate-fill-rows : tie.Need-slice-aggregate-fill-rows
-slice-aggregate-fill-rows c = search needs
 
 fill-rows-requires : tie.Need-fill-rows-requires
 fill-rows-requires c κs =
-    let p = c .before .before .before .before .before .before .before .before .before .before .before .before .before .before .before .pre in
-    (p .0, (p .1 .0, (p .1 .1 .0, (p .1 .1 .1 .0, p .1 .1 .1 .1, rw (c .before .before .before .before .before .before .largest .ensures) at (c .before .before .before .all-inverses .ensures)))))
-
-same-length : tie.Need-same-length
-same-length c = search needs
-
-returns : tie.Need-returns
-returns c = search needs
+    let inverted = c .before .before .before in
+    let m = inverted .before .before .before in
+    (start m .pre, rw (m .largest .ensures) at (inverted .all-inverses .ensures))
 
 pub fill-wrong-spec : {M : Type 1} → statement M
 fill-wrong-spec =
     tie.close
     (tie.spec
-    largest-requires
-    slice-aggregate-all-inverses
-    slice-aggregate-all-inverses-2
+    (λ c κs. search needs)
+    (λ c. sym (size (c .before)))
+    (λ c. search needs)
     all-inverses-requires
-    slice-aggregate-fill-rows
+    (λ c. search needs)
     fill-rows-requires
-    same-length
-    returns)
+    (λ c. search needs)
+    (λ c. search needs))

@@ -11,11 +11,8 @@ other : (m : ℕ) → (m ≡ 0 → ⊥) → 0 ≡ flagOf m
 other zero h = absurd (h refl)
 other (suc m) h = refl
 
-returns : tie.Need-returns
-returns c = search needs
-
 returns-2 : tie.Need-returns-2
 returns-2 c = other (c .before .args .value) (c .if1 .left)
 
 pub flag-of-spec : {M : Type 1} → statement M
-flag-of-spec = tie.close (tie.spec returns returns-2)
+flag-of-spec = tie.close (tie.spec (λ c. search needs) returns-2)

@@ -14,39 +14,23 @@ use Rattle.finish.proofs.gather.Statement.{statement}
 use Rattle.finish.proofs.gather.Tie as tie
 
 abbrev Inv-loop : tie.InvT-loop
-Inv-loop flags row s₀ j₀ i₀ s j i = (i ≤ length flags) × (j ≤ i) × (length s ≡ length s₀) × (j + length (right (drop i flags) (drop i row)) ≡ length (right flags row)) × (lay j (right (drop i flags) (drop i row)) s ≡ lay 0 (right flags row) s₀)
+Inv-loop flags row s₀ j₀ i₀ s j i =
+    (i ≤ length flags) × (j ≤ i) × (length s ≡ length s₀)
+    × (j + length (right (drop i flags) (drop i row)) ≡ length (right flags row))
+    × (lay j (right (drop i flags) (drop i row)) s ≡ lay 0 (right flags row) s₀)
 
 abbrev μ-loop : tie.MeasureT-loop
 μ-loop flags row s₀ j₀ i₀ s j i = length flags - i
 
-loop-holds : tie.Need-loop-holds Inv-loop μ-loop
-loop-holds c = search needs
-
-shared-slice-read-if1 : tie.Need-shared-slice-read-if1 Inv-loop μ-loop
-shared-slice-read-if1 c = search needs
-
-shared-slice-read-s : tie.Need-shared-slice-read-s Inv-loop μ-loop
-shared-slice-read-s c = search needs
-
-slice-write-s : tie.Need-slice-write-s Inv-loop μ-loop
-slice-write-s c = search needs
-
-add-j : tie.Need-add-j Inv-loop μ-loop
-add-j c = search needs
-
-add-i : tie.Need-add-i Inv-loop μ-loop
-add-i c = search needs
-
-loop-less : tie.Need-loop-less Inv-loop μ-loop
-loop-less c = search needs
-
 loop-again : tie.Need-loop-again Inv-loop μ-loop
-loop-again c = let start = c .before .before .before .before in
+loop-again c =
+    let start = c .before .before .before .before in
     let turn = c .before .before .before .loop in
     let ms = start .args .flags .now in
     let l = start .args .row .now in
     let more = c .before .before .loop-test .taken in
-    let fits : turn .j + length (right (drop (turn .i) ms) (drop (turn .i) l)) ≤ length (turn .s) = omega (arith, turn .inv, right-most ms l, start .pre) in
+    let fits : turn .j + length (right (drop (turn .i) ms) (drop (turn .i) l)) ≤ length (turn .s) =
+    omega (arith, turn .inv, right-most ms l, start .pre) in
     let one : Gathered ms l (turn .i) (turn .s) (turn .j) (c .if1 .s) (c .if1 .j) = ⊎-elim
     (λ w. gathered-in ms l (turn .i) more (start .pre .0) (turn .s) (turn .j) fits (w .0 .taken) (w .2) (w .3))
     (λ w. gathered-out ms l (turn .i) more (start .pre .0) (turn .s) (turn .j) fits (w .0 .left) (w .1) (w .2))
@@ -58,11 +42,9 @@ loop-again c = let start = c .before .before .before .before in
       one .laid ∙ turn .inv .4,
     )
 
-same-length : tie.Need-same-length Inv-loop μ-loop
-same-length c = search needs
-
 returns : tie.Need-returns Inv-loop μ-loop
-returns c = let turn = c .before .loop in
+returns c =
+    let turn = c .before .loop in
     let none = right-none (c .before .before .args .flags .now) (c .before .before .args .row .now) (turn .i) (c .loop-test .left) in
     (omega (arith, ap length none, turn .inv .3), sym (lay-none (turn .j) (turn .s)) ∙ rw none at (turn .inv .4))
 
@@ -72,13 +54,13 @@ gather-spec =
     (tie.spec
     Inv-loop
     μ-loop
-    loop-holds
-    shared-slice-read-if1
-    shared-slice-read-s
-    slice-write-s
-    add-j
-    add-i
-    loop-less
+    (λ c. search needs)
+    (λ c. search needs)
+    (λ c. search needs)
+    (λ c. search needs)
+    (λ c. search needs)
+    (λ c. search needs)
+    (λ c. search needs)
     loop-again
-    same-length
+    (λ c. search needs)
     returns)

@@ -16,7 +16,9 @@ use Rattle.finish.proofs.merge.Statement.{statement}
 use Rattle.finish.proofs.merge.Tie as tie
 
 abbrev Inv-loop : tie.InvT-loop
-Inv-loop marks vs row s₀ at j₀ i₀ s j i = (i ≤ length marks) × (length s ≡ length s₀) × (j + total (zerosIn (drop i marks)) ≤ length vs) × (lay (at + i) (put (drop i marks) (drop j vs) (drop i row)) s ≡ lay at (put marks vs row) s₀)
+Inv-loop marks vs row s₀ at j₀ i₀ s j i =
+    (i ≤ length marks) × (length s ≡ length s₀) × (j + total (zerosIn (drop i marks)) ≤ length vs)
+    × (lay (at + i) (put (drop i marks) (drop j vs) (drop i row)) s ≡ lay at (put marks vs row) s₀)
 
 abbrev μ-loop : tie.MeasureT-loop
 μ-loop marks vs row s₀ at j₀ i₀ s j i = length marks - i
@@ -24,46 +26,26 @@ abbrev μ-loop : tie.MeasureT-loop
 loop-holds : tie.Need-loop-holds Inv-loop μ-loop
 loop-holds c = (omega arith, refl, omega (arith, c .pre .0), rw add-zero)
 
-shared-slice-read-if1 : tie.Need-shared-slice-read-if1 Inv-loop μ-loop
-shared-slice-read-if1 c = search needs
-
 shared-slice-read-s : tie.Need-shared-slice-read-s Inv-loop μ-loop
-shared-slice-read-s c = omega (arith, zero-left (c .before .before .before .before .before .args .marks .now) (c .before .before .before .before .loop .i) (c .before .before .before .loop-test .taken) (c .before .if1 .taken), c .before .before .before .before .loop .inv .2)
-
-add-s : tie.Need-add-s Inv-loop μ-loop
-add-s c = search needs
-
-slice-write-s : tie.Need-slice-write-s Inv-loop μ-loop
-slice-write-s c = search needs
-
-add-j : tie.Need-add-j Inv-loop μ-loop
-add-j c = search needs
-
-shared-slice-read-s-2 : tie.Need-shared-slice-read-s-2 Inv-loop μ-loop
-shared-slice-read-s-2 c = search needs
-
-add-s-2 : tie.Need-add-s-2 Inv-loop μ-loop
-add-s-2 c = search needs
-
-slice-write-s-2 : tie.Need-slice-write-s-2 Inv-loop μ-loop
-slice-write-s-2 c = search needs
-
-add-i : tie.Need-add-i Inv-loop μ-loop
-add-i c = search needs
-
-loop-less : tie.Need-loop-less Inv-loop μ-loop
-loop-less c = search needs
+shared-slice-read-s c =
+    let turn = c .before .before .before .before .loop in
+    let marks = c .before .before .before .before .before .args .marks .now in
+    omega (arith, zero-left marks (turn .i) (c .before .before .before .loop-test .taken) (c .before .if1 .taken), turn .inv .2)
 
 loop-again : tie.Need-loop-again Inv-loop μ-loop
-loop-again c = let start = c .before .before .before .before in
+loop-again c =
+    let start = c .before .before .before .before in
     let turn = c .before .before .before .loop in
     let ms = start .args .marks .now in
+    let vs = start .args .vs .now in
+    let ys = start .args .row .now in
+    let at = start .args .at in
     let more = c .before .before .loop-test .taken in
-    let fits : start .args .at + length ms ≤ length (turn .s) = omega (arith, turn .inv .1, start .pre .2) in
-    let one : Merged ms (start .args .vs .now) (start .args .row .now) (turn .i) (start .pre .1) (start .args .at) (turn .s) (turn .j) (c .if1 .s) (c .if1 .j) = ⊎-elim
-    (λ w. merged-in ms (start .args .vs .now) (start .args .row .now) (turn .i) (start .pre .1) more (start .args .at) (turn .s) fits (turn .j) (w .0 .taken)
+    let fits : at + length ms ≤ length (turn .s) = omega (arith, turn .inv .1, start .pre .2) in
+    let one : Merged ms vs ys (turn .i) (start .pre .1) at (turn .s) (turn .j) (c .if1 .s) (c .if1 .j) = ⊎-elim
+    (λ w. merged-in ms vs ys (turn .i) (start .pre .1) more at (turn .s) fits (turn .j) (w .0 .taken)
     (omega (arith, zero-left ms (turn .i) more (w .0 .taken), turn .inv .2)) (w .2) (w .3))
-    (λ w. merged-out ms (start .args .vs .now) (start .args .row .now) (turn .i) (start .pre .1) more (start .args .at) (turn .s) fits (turn .j) (w .0 .left) (w .2) (w .3))
+    (λ w. merged-out ms vs ys (turn .i) (start .pre .1) more at (turn .s) fits (turn .j) (w .0 .left) (w .2) (w .3))
     (c .if1 .came) in (
       omega (arith, more),
       one .long ∙ turn .inv .1,
@@ -71,14 +53,12 @@ loop-again c = let start = c .before .before .before .before in
       one .laid ∙ turn .inv .3,
     )
 
-same-length : tie.Need-same-length Inv-loop μ-loop
-same-length c = search needs
-
 returns : tie.Need-returns Inv-loop μ-loop
-returns c = let start = c .before .before in
+returns c =
+    let a = c .before .before .args in
     let turn = c .before .loop in
-    let none = put-none (start .args .marks .now) (start .args .vs .now) (start .args .row .now) (turn .i) (start .pre .1) (turn .j) (c .loop-test .left) in
-    sym (lay-none (start .args .at + turn .i) (turn .s)) ∙ rw none at (turn .inv .3)
+    let none = put-none (a .marks .now) (a .vs .now) (a .row .now) (turn .i) (c .before .before .pre .1) (turn .j) (c .loop-test .left) in
+    sym (lay-none (a .at + turn .i) (turn .s)) ∙ rw none at (turn .inv .3)
 
 pub merge-spec : {M : Type 1} → statement M
 merge-spec =
@@ -87,16 +67,16 @@ merge-spec =
     Inv-loop
     μ-loop
     loop-holds
-    shared-slice-read-if1
+    (λ c. search needs)
     shared-slice-read-s
-    add-s
-    slice-write-s
-    add-j
-    shared-slice-read-s-2
-    add-s-2
-    slice-write-s-2
-    add-i
-    loop-less
+    (λ c. search needs)
+    (λ c. search needs)
+    (λ c. search needs)
+    (λ c. search needs)
+    (λ c. search needs)
+    (λ c. search needs)
+    (λ c. search needs)
+    (λ c. search needs)
     loop-again
-    same-length
+    (λ c. search needs)
     returns)

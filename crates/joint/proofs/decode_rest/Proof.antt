@@ -106,6 +106,10 @@ module _ (c : tie.After-gather-rows) where
   kept-long : length (c .gather-rows .last .1 .1 .1 .0) ≡ 384
   kept-long = ap length kept ∙ length-lay 0 _ (replicate 384 0)
 
+  kept-size : length (take (rows (code at) * gathered .gather .result) (c .gather-rows .last .1 .1 .1 .0))
+      ≡ rows (code at) * gathered .gather .result
+  kept-size = length-take-le _ (c .gather-rows .last .1 .1 .1 .0) (omega (arith, kept-long, few-cells))
+
   own-size : length (take (rows (code at) * gathered .gather .result) (replicate {A = ℕ} 384 0)) ≡ rows (code at) * gathered .gather .result
   own-size = length-take-le _ (replicate 384 0) (omega (arith, few-cells))
 
@@ -139,7 +143,11 @@ work-whole-requires c κs =
     rw (points (gathered g), symbols g) (
       (rest-ready (ready d), ready d .remain .limit),
       (
-        (own-size g ∙ count g ∙ sym (core-array (code d) (L d) (ready d .received) .count), wrong-size g ∙ left (gathered g), start d .pre .0 .1),
+        (
+          own-size g ∙ count g ∙ sym (core-array (code d) (L d) (ready d .received) .count),
+          wrong-size g ∙ left (gathered g),
+          start d .pre .0 .1,
+        ),
         (start d .pre .1, λ some. absurd (omega (arith, some))),
       ),
     )
@@ -176,7 +184,7 @@ decode-rest-spec = tie.close (tie.spec
     (λ c. sym (held-size (c .before .before)))
     (λ c. search needs)
     (λ c. let g = c .before .before .before in omega (arith, kept-long g, few-cells g))
-    (λ c. let g = c .before .before .before .before in sym (length-take-le _ (g .gather-rows .last .1 .1 .1 .0) (omega (arith, kept-long g, few-cells g))))
+    (λ c. sym (kept-size (c .before .before .before .before)))
     (λ c. omega (arith, few-cells (c .before .before .before .before)))
     (λ c. sym (own-size (c .before .before .before .before .before)))
     (λ c. let g = c .before .before .before .before .before in omega (arith, room (gathered g), start (at g) .pre .0 .2))

@@ -2,12 +2,13 @@
 -- to divide.
 -- Assumes nothing.
 use mathlib.Core.Path.{_≡_, sym, _∙_, subst}
-use mathlib.Core.List.{List}
+use mathlib.Core.List.{List, []}
 use Prim.Native.Nat.{ℕ, _≤_}
 use native.Mathlib.Omega.{arith}
 use lib.ListN.{length, take}
 use Rattle.codes.specs.Code.{Code, IsArray}
 use Rattle.codes.specs.Factors.{Description, descriptionOf, divided}
+use Rattle.codes.proofs.Parts.{empty}
 use Rattle.codes.proofs.Factors.{Factors, is-divided}
 use Rattle.factors.proofs.Rows.{striking}
 use Rattle.ending.specs.Endings.{Buffers}
@@ -15,8 +16,8 @@ use Rattle.ending.specs.declared.Ending.{Ending}
 use Rattle.ending.specs.declared.Ending.the-variants.{Corrected}
 use Rattle.joint.specs.Promises.{buffers}
 use Rattle.joint.specs.Lost.{LostEnds}
-use Rattle.joint.specs.Working.{ReadyLost}
-use Rattle.joint.proofs.Lost.{corrected-array}
+use Rattle.joint.specs.Working.{ReadyLost, StruckEnds}
+use Rattle.joint.proofs.Lost.{whole-of, whole-ends, corrected-array}
 use Rattle.joint.proofs.Struck.{each-one-struck}
 use borrow.Author.Needs.{needs}
 use Rattle.joint.proofs.decode_struck.Statement.{statement}
@@ -47,15 +48,54 @@ module _ (start : tie.Start) where
   room : length y ≤ 384
   room = omega (arith, ready .received .count, ready .counts .cells)
 
+-- with factors of one there is nothing to divide
+module _ (t : tie.Then1) where
+  abbrev plainly : tie.Start
+  plainly = t .before .before .before .before .before .before .before .before .before .before
+
+  one-struck : (e : Ending) (b : Buffers) → Table plainly (y plainly) e b
+      → StruckEnds (D plainly) (L plainly) (y plainly) (plainly .args .limit) (lent plainly) e b
+  one-struck e b h =
+      let r = ready plainly in
+      each-one-struck (D plainly) (r .proper) (factors plainly) (plainly .pre .1 .1 .1 .1 (t .if1 .taken)) (r .received) (Table plainly)
+      (λ n b h. corrected-array (D plainly .code) (L plainly) (r .proper) h) e b h
+
+-- and if nothing is lost, nothing to fill in
+none : (c : tie.Then2) → [] ≡ L (plainly (c .before))
+none c = empty (L (plainly (c .before))) (c .if2 .taken)
+
+work-whole-requires : tie.Need-work-whole-requires
+work-whole-requires c κs =
+    let n = c .before .before .before in
+    let s = plainly (n .before) in
+    (whole-of (ready s) (none n), ((s .pre .1 .0 .0, s .pre .1 .0 .1, s .pre .0 .1), s .pre .1 .1 .0))
+
 returns : tie.Need-returns
 returns c =
     let w = c .before .before .before .before .before .before in
-    let t = c .before .before .before .before .before .before .before .before .before .before in
-    let o = t .before .before .before .before .before .before .before .before .before .before in
-    let r = ready o in
-    each-one-struck (D o) (r .proper) (factors o) (o .pre .1 .1 .1 .1 (t .if1 .taken)) (r .received) (Table o)
-    (λ n b h. corrected-array (D o .code) (L o) (r .proper) h) (w .work-lost .result)
-    (buffers (w .work-lost .last .1 .1 .1 .1 .1 .1 .1 .1 .0) (w .work-lost .last .1 .1 .1 .1 .1 .1 .1 .1 .1 .0)) (w .work-lost .ensures)
+    let n = c .before .before .before .before .before .before .before .before .before .before in
+    let t = n .before in
+    let s = plainly t in
+    let b = buffers (w .work-whole .last .1 .1 .1 .1 .1 .1 .1 .0) (w .work-whole .last .1 .1 .1 .1 .1 .1 .1 .1 .0) in
+    one-struck t (w .work-whole .result) b (whole-ends (ready s) (none n) (lent s) b (w .work-whole .result) (w .work-whole .ensures))
+
+work-lost-requires : tie.Need-work-lost-requires
+work-lost-requires c κs =
+    let t = c .before .before .before .before in
+    let p = plainly t .pre in
+    (p .0, (p .1 .0, p .1 .1 .0))
+
+divide-requires : tie.Need-divide-requires
+divide-requires c κs =
+    let o = c .before .before .before .before .before .before .before .before .before .before .before in
+    (striking {D = D o} (ready o .counts) (factors o) (ready o .received), room o)
+
+returns-2 : tie.Need-returns-2
+returns-2 c =
+    let w = c .before .before .before .before .before .before in
+    let left = w .work-lost .last .1 .1 .1 .1 .1 .1 .1 .1 in
+    let t = c .before .before .before .before .before .before .before .before .before .before .before in
+    one-struck t (w .work-lost .result) (buffers (left .0) (left .1 .0)) (w .work-lost .ensures)
 
 -- where the array is divided
 module _ (c : tie.After-divide) where
@@ -103,22 +143,25 @@ strike-requires c κs w is =
     striking {D = D o} (r .counts) (factors o) (corrected-array (D o .code) (L o) (r .proper)
     (subst (λ (e : Ending). Table o (divided (D o) (y o)) e (answer d)) is (ends d)))
 
-returns-2 : tie.Need-returns-2
-returns-2 c =
+returns-3 : tie.Need-returns-3
+returns-3 c =
     let k = c .before .before in
     let d = c .before .before .before .before .before .before .before .before .before .before in
     record { answer = answer d; ends = ends d; back = k .strike .ensures (answer d .flags) }
 
 pub decode-struck-spec : {M : Type 1} → statement M
 decode-struck-spec = tie.close (tie.spec
-    (λ c κs. let p = c .before .before .before .before .before .before .before .before .before .before .before .before .before .pre in (p .0, (p .1 .0, p .1 .1 .0)))
+    work-whole-requires
     (λ c. search needs) (λ c. search needs) (λ c. search needs)
     returns
+    work-lost-requires
+    (λ c. search needs) (λ c. search needs) (λ c. search needs)
+    returns-2
     (λ c. search needs)
-    (λ c κs. let o = c .before .before .before .before .before .before .before .before .before .before .before in (striking {D = D o} (ready o .counts) (factors o) (ready o .received), room o))
+    divide-requires
     (λ c. let d = c .before in omega (arith, d .divide .kept .1 .1 .1 .1 .0, room (asked d)))
     (λ c. sym (same (c .before .before)))
     work-lost-requires-2
     strike-requires
     (λ c. search needs) (λ c. search needs) (λ c. search needs)
-    returns-2)
+    returns-3)

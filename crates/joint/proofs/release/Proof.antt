@@ -38,7 +38,12 @@ same-length-2 : tie.Need-same-length-2
 same-length-2 c = search needs
 
 returns-2 : tie.Need-returns-2
-returns-2 c = rw (c .before .before .before .before .before .before .before .before .enum-told2 .given .1) (ap₂ buffers (copied _ _ (c .before .before .before .before .before .before .before .before .before .before .before .before .before .before .pre .0) (c .before .before .before .before .before .before .copy .ensures .1)) (copied _ _ (c .before .before .before .before .before .before .before .before .before .before .before .before .before .before .pre .1) (c .before .before .copy2 .ensures .1)))
+returns-2 c =
+    let t = c .before .before .before .before .before .before .before .before in
+    let p = t .before .before .before .before .before .before .pre in
+    let array = copied _ _ (p .0) (c .before .before .before .before .before .before .copy .ensures .1) in
+    let flags = copied _ _ (p .1) (c .before .before .copy2 .ensures .1) in
+    rw (t .enum-told2 .given .1) (ap₂ buffers array flags)
 
 returns-3 : tie.Need-returns-3
 returns-3 c = rw (c .enum-told3 .given .1)

@@ -6,17 +6,17 @@ use Prim.Native.Nat.{ℕ, _-_, _≤_}
 use native.Mathlib.Omega.{arith}
 use lib.ListN.{length, take}
 use lib.Seq.{length-take-le}
-use Rattle.codes.specs.Code.{Code, codeOf, columns, jointLimit}
+use Rattle.codes.specs.Code.{Code, codeOf, columns}
 use Rattle.codes.specs.Lost.{core, coreOf}
 use Rattle.codes.proofs.Parts.{empty}
-use Rattle.codes.proofs.Lost.{core-columns, core-few, core-none}
+use Rattle.codes.proofs.Lost.{core-columns, core-few}
 use Rattle.ending.specs.Endings.{Buffers, Corrects, Ends}
 use Rattle.ending.specs.declared.Ending.{Ending}
 use Rattle.ending.specs.declared.Ending.the-variants.{Refused, Corrected, Nothing, Several, Hollow}
 use Rattle.joint.specs.Promises.{buffers}
 use Rattle.joint.specs.Lost.{LostCorrects, LostEnds}
 use Rattle.joint.specs.Working.{ReadyLost, RestEnds}
-use Rattle.joint.proofs.Lost.{none-ends, others-by, found-count, fill-room, corrected-by}
+use Rattle.joint.proofs.Lost.{whole-of, whole-ends, others-by, found-count, fill-room, corrected-by}
 use borrow.Author.Needs.{needs}
 use Rattle.joint.proofs.work_lost.Statement.{statement}
 use Rattle.joint.proofs.work_lost.Tie as tie
@@ -49,18 +49,11 @@ module _ (c : tie.Then1) where
   none : [] ≡ L whole
   none = empty (L whole) (c .if1 .taken)
 
-  limit : whole .args .limit ≤ jointLimit (code whole)
-  limit = subst (λ (k : Code). whole .args .limit ≤ jointLimit k) (ap (core (code whole)) (sym none) ∙ core-none (code whole))
-      (ready whole .remain .limit)
-
 work-whole-requires : tie.Need-work-whole-requires
 work-whole-requires c κs =
     let t = c .before .before .before in
     let s = whole t in
-    let r = ready s in (
-      (record { counts = r .counts; proper = r .proper; received = r .received }, limit t),
-      ((s .pre .1 .0 .0, s .pre .1 .0 .1, s .pre .0 .1), s .pre .1 .1),
-    )
+    (whole-of (ready s) (none t), ((s .pre .1 .0 .0, s .pre .1 .0 .1, s .pre .0 .1), s .pre .1 .1))
 
 returns : tie.Need-returns
 returns c =
@@ -68,8 +61,7 @@ returns c =
     let t = c .before .before .before .before .before .before .before .before .before .before in
     let s = whole t in
     let b = buffers (w .work-whole .last .1 .1 .1 .1 .1 .1 .1 .0) (w .work-whole .last .1 .1 .1 .1 .1 .1 .1 .1 .0) in
-    subst (λ (L : List ℕ). LostEnds (code s) L (y s) (s .args .limit) (lent s) (w .work-whole .result) b) (none t)
-    (none-ends (code s) (ready s .received) (s .args .limit) (lent s) b (w .work-whole .result) .1 (w .work-whole .ensures))
+    whole-ends (ready s) (none t) (lent s) b (w .work-whole .result) (w .work-whole .ensures)
 
 -- columns are lost
 module _ (c : tie.After-decode-rest) where
@@ -164,7 +156,8 @@ returns-3 c =
     (subst (LostCorrects (code s) (L s) (y s) (s .args .limit) (told e .0)) (ap₂ buffers (sym (left .0)) (sym (left .1))) ends)
 
 -- no other ending is 'corrected'
-not-corrected : (k w : ℕ) → ¬ (Refused k ≡ Corrected w) × ¬ (Nothing ≡ Corrected w) × ¬ (Several k ≡ Corrected w) × ¬ (Hollow k ≡ Corrected w)
+not-corrected : (k w : ℕ) → ¬ (Refused k ≡ Corrected w) × ¬ (Nothing ≡ Corrected w) × ¬ (Several k ≡ Corrected w)
+    × ¬ (Hollow k ≡ Corrected w)
 not-corrected k w = (
   λ e. let z : _≡_ {A = ℕ} 0 1 = cc in omega arith,
   λ e. let z : _≡_ {A = ℕ} 0 1 = cc in omega arith,

@@ -1,22 +1,34 @@
--- `work_whole` lends its own buffers, and releases them by the ending.
+-- `work_whole` has points and buffers of its own, and releases these by the ending.
 -- Assumes nothing.
-use mathlib.Core.Path.{_≡_, sym, ap, _∙_, subst}
+use mathlib.Core.Path.{_≡_, refl, sym, ap, _∙_, subst}
 use mathlib.Core.List.{List}
 use Prim.Native.Nat.{ℕ, _≤_}
 use native.Mathlib.Omega.{arith}
-use lib.ListN.{length, take}
+use lib.ListN.{length, take, replicate}
 use lib.Seq.{length-take-le}
 use Rattle.codes.specs.Code.{Code, codeOf}
 use Rattle.ending.specs.Endings.{Buffers, Ends}
 use Rattle.joint.specs.Promises.{buffers}
-use Rattle.finish.specs.Working.{released}
+use Rattle.finish.specs.Working.{fronts, released}
+use Rattle.patch.proofs.Parts.{take-copied}
 use borrow.Author.Needs.{needs}
 use Rattle.joint.proofs.work_whole.Statement.{statement}
 use Rattle.joint.proofs.work_whole.Tie as tie
 
+-- the points, copied
+module _ (c : tie.After-copy) where
+  abbrev asked : tie.Start
+  asked = c .before .before .before .before .before .before .before .before .before
+
+  held-are : take (length (asked .args .points .now)) (c .copy .last .1 .0) ≡ asked .args .points .now
+  held-are = take-copied (asked .args .points .now) (replicate 96 0) (c .copy .ensures .1)
+
 module _ (c : tie.After-end) where
+  abbrev copied : tie.After-copy
+  copied = c .before .before .before .before .before .before
+
   abbrev start : tie.Start
-  start = c .before .before .before .before .before .before .before .before .before .before .before
+  start = asked copied
 
   abbrev code : Code
   code = codeOf (start .args .degree) (start .args .points .now) (start .args .lengths .now)
@@ -49,10 +61,18 @@ module _ (c : tie.After-end) where
   wrong-size : length (take (length xs) wrong) ≡ length xs
   wrong-size = length-take-le (length xs) wrong wrong-room
 
+  -- the array of these points ends so
+  ended : let r = c .end .result in Ends code y (start .args .limit) lent r (released r (fronts code own wrong) lent)
+  ended =
+      let r = c .end .result in
+      subst (λ (ps : List ℕ). let k = codeOf (start .args .degree) ps (start .args .lengths .now) in
+      Ends k y (start .args .limit) lent r (released r (fronts k own wrong) lent)) (held-are copied) (c .end .ensures lent)
+
 end-requires : tie.Need-end-requires
 end-requires c κs =
-    let p = c .before .before .before .before .before .before .before .before .before .before .pre in
-    (p .0 .0, ((p .0 .1, p .1 .1 .0), ((p .1 .0 .2, omega arith, omega arith), p .1 .1 .1)))
+    let o = c .before .before .before .before .before in
+    let p = asked o .pre in
+    rw (held-are o) (p .0 .0, ((p .0 .1, p .1 .1 .0), ((p .1 .0 .2, omega arith, refl), p .1 .1 .1)))
 
 release-requires : tie.Need-release-requires
 release-requires c κs =
@@ -65,11 +85,16 @@ returns c =
     let o = c .before .before .before .before .before .before .before .before .before .before .before .before .before in
     let r = o .end .result in
     let left = c .before .before .before .before .release .ensures
-    ∙ ap (λ (m : ℕ). released r (buffers (take m (own o)) (take (length (xs o)) (wrong o))) (lent o)) (start o .pre .0 .0 .received .count) in
-    subst (Ends (code o) (y o) (start o .args .limit) (lent o) r) (sym left) (o .end .ensures (lent o))
+    ∙ ap (λ (m : ℕ). released r (buffers (take m (own o)) (take (length (xs o)) (wrong o))) (lent o))
+    (start o .pre .0 .0 .received .count) in
+    subst (Ends (code o) (y o) (start o .args .limit) (lent o) r) (sym left) (ended o)
 
 pub work-whole-spec : {M : Type 1} → statement M
 work-whole-spec = tie.close (tie.spec
+    (λ c. search needs)
+    (λ c κs. search needs)
+    (λ c. search needs)
+    (λ c. sym (ap length (held-are (c .before .before))))
     (λ c. search needs)
     (λ c. search needs)
     end-requires

@@ -7,18 +7,6 @@ use borrow.Author.Needs.{needs}
 use Rattle.lists.proofs.combine_four.Statement.{statement}
 use Rattle.lists.proofs.combine_four.Tie as tie
 
-masked-requires : tie.Need-masked-requires
-masked-requires c κs = search needs
-
-masked-requires-2 : tie.Need-masked-requires-2
-masked-requires-2 c κs = search needs
-
-masked-requires-3 : tie.Need-masked-requires-3
-masked-requires-3 c κs = search needs
-
-masked-requires-4 : tie.Need-masked-requires-4
-masked-requires-4 c κs = search needs
-
 returns : tie.Need-returns
 unfolding plus
 returns c =
@@ -28,4 +16,4 @@ returns c =
 
 pub combine-four-spec : {M : Type 1} → statement M
 combine-four-spec =
-    tie.close (tie.spec masked-requires masked-requires-2 masked-requires-3 masked-requires-4 returns)
+    tie.close (tie.spec (λ c κs. search needs) (λ c κs. search needs) (λ c κs. search needs) (λ c κs. search needs) returns)

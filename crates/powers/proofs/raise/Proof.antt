@@ -14,15 +14,15 @@ use Rattle.powers.proofs.raise.Statement.{statement}
 use Rattle.powers.proofs.raise.Tie as tie
 
 abbrev Inv-loop : tie.InvT-loop
-Inv-loop degree powers row rows₀ table power₀ at₀ i₀ rows power at i = Raised degree powers row rows₀ rows power at i
+Inv-loop table degree powers row rows₀ power₀ at₀ i₀ rows power at i = Raised degree powers row rows₀ rows power at i
 
 abbrev μ-loop : tie.MeasureT-loop
-μ-loop degree powers row rows₀ table power₀ at₀ i₀ rows power at i = powers - i
+μ-loop table degree powers row rows₀ power₀ at₀ i₀ rows power at i = powers - i
 
 -- a turn, in which a power is left
 module _ (c : tie.In-loop Inv-loop μ-loop) where
   abbrev start : tie.Start Inv-loop μ-loop
-  start = c .before .before .before .before .before .before .before .before
+  start = c .before .before .before .before .before .before .before
 
   undone : let a = start .args in let own = c .before .loop in
       Raised (a .degree) (a .powers) (a .row .now) (a .rows .now) (own .rows) (own .power) (own .at) (own .i)
@@ -33,48 +33,45 @@ module _ (c : tie.In-loop Inv-loop μ-loop) where
 
 multiply-requires : tie.Need-multiply-requires Inv-loop μ-loop
 multiply-requires c κs =
-    let t = c .before .before .before .before .before .before .before in
+    let t = c .before .before .before .before .before .before in
     let s = start t in
-    let 𝓕 = field (s .args .degree) (s .pre .degree) in (
-      (s .pre .degree, t .before .before .before .before .before .lend .ensures, 𝓕 .zero-in, 𝓕 .zero-in),
+    let (p, table) = s .pre in
+    let 𝓕 = field (s .args .degree) (p .degree) in (
+      (p .degree, table, 𝓕 .zero-in, 𝓕 .zero-in),
       (
-        omega (arith, undone t .long, s .pre .most),
+        omega (arith, undone t .long, p .most),
         (
-          λ k h. rw (zero-add k) (all-at (IsSymbol (s .args .degree)) (s .args .row .now) k 0 h (s .pre .symbols)),
-          power-symbols (s .pre) (undone t),
+          λ k h. rw (zero-add k) (all-at (IsSymbol (s .args .degree)) (s .args .row .now) k 0 h (p .symbols)),
+          power-symbols p (undone t),
         ),
       ),
     )
 
 loop-again : tie.Need-loop-again Inv-loop μ-loop
-loop-again c = let t = c .before .before .before .before .before .before .before .before .before in
-    let s = start t in
-    raised-next (s .pre) (undone t) (more t) (c .before .before .before .before .before .before .store2 .ensures) (c .before .multiply .ensures)
+loop-again c =
+    let t = c .before .before .before .before .before .before .before .before in
+    raised-next (start t .pre .0) (undone t) (more t) (c .before .before .before .before .before .store2 .ensures)
+    (c .before .multiply .ensures)
 
 pub raise-spec : {M : Type 1} → statement M
-raise-spec =
-    tie.close
-    (tie.spec
+raise-spec = tie.close (tie.spec
     Inv-loop
     μ-loop
-    (λ c κs. c .before .before .pre .degree)
     (λ c. refl)
-    (λ c κs. omega (arith, c .before .before .before .before .pre .most))
-    (λ c. let s = c .before .before .before .before .before .before in
-    raised-first (s .pre) (replicate 96 0) (length-replicate {A = ℕ} 96 0) (c .before .store .ensures))
-    (λ c. omega (arith, undone c .long, start c .pre .most))
-    (λ c. let t = c .before in let s = start t in
-    sym (stored (s .pre) (undone t) (more t)))
-    (λ c κs. let t = c .before .before in let s = start t in
-    omega (arith, stored (s .pre) (undone t) (more t), fits (s .pre) (undone t) (more t)))
+    (λ c κs. let s = c .before .before .before in omega (arith, s .pre .0 .most))
+    (λ c. let s = c .before .before .before .before .before in
+    raised-first (s .pre .0) (replicate 96 0) (length-replicate {A = ℕ} 96 0) (c .before .store .ensures))
+    (λ c. omega (arith, undone c .long, start c .pre .0 .most))
+    (λ c. let t = c .before in sym (stored (start t .pre .0) (undone t) (more t)))
+    (λ c κs. let t = c .before .before in let p = start t .pre .0 in
+    omega (arith, stored p (undone t) (more t), fits p (undone t) (more t)))
     (λ c. search needs)
     multiply-requires
-    (λ c. let t = c .before .before .before .before .before .before .before .before .before in let s = start t in
-    omega (arith, fits (s .pre) (undone t) (more t)))
-    (λ c. omega (arith, more (c .before .before .before .before .before .before .before .before .before)))
-    (λ c. omega (arith, more (c .before .before .before .before .before .before .before .before .before)))
+    (λ c. let t = c .before .before .before .before .before .before .before .before in
+    omega (arith, fits (start t .pre .0) (undone t) (more t)))
+    (λ c. omega (arith, more (c .before .before .before .before .before .before .before .before)))
+    (λ c. omega (arith, more (c .before .before .before .before .before .before .before .before)))
     loop-again
     (λ c. c .before .loop .inv .same)
-    (λ c. let s = c .before .before .before .before .before .before .before .before in
-    raised-all (s .pre) (c .before .loop .inv)
-    (λ q. omega (arith, c .loop-test .left))))
+    (λ c. let s = c .before .before .before .before .before .before .before in
+    raised-all (s .pre .0) (c .before .loop .inv) (λ q. omega (arith, c .loop-test .left))))

@@ -77,6 +77,14 @@ module _ (c : tie.After-fill-flagged) where
   answer-long : length (take (length (y merged-at)) own) ≡ length (y merged-at)
   answer-long = length-take-le _ own (omega (arith, long, cells merged-at))
 
+-- where the answer is released
+module _ (c : tie.After-copy) where
+  abbrev answered : tie.After-fill-flagged
+  answered = c .before .before .before .before
+
+  abbrev flagged : tie.After-merge-flags
+  flagged = merged-at answered
+
 merge-flags-requires : tie.Need-merge-flags-requires
 merge-flags-requires c κs =
     let s = c .before .before .before .before .before .before .before in
@@ -90,11 +98,13 @@ fill-flagged-requires c κs =
 
 returns : tie.Need-returns
 returns c =
-    let f = c .before .before .before .before .before .before .before .before .before .before .before in
-    let d = merged-at f in (
-      copied _ _ (answer-long f ∙ sym (start d .pre .1 .1 .1 .0))
-          (c .before .before .before .before .before .before .before .copy .ensures .1) ∙ answer f,
-      copied _ _ (size d ∙ sym (start d .pre .1 .1 .1 .1)) (c .before .before .copy2 .ensures .1) ∙ front d,
+    let second = c .before .before in
+    let one = second .before .before .before .before .before in
+    let f = answered one in
+    let d = flagged one in
+    let sizes = start d .pre .1 .1 .1 in (
+      copied _ _ (answer-long f ∙ sym (sizes .0)) (one .copy .ensures .1) ∙ answer f,
+      copied _ _ (size d ∙ sym (sizes .1)) (second .copy2 .ensures .1) ∙ front d,
     )
 
 pub complete-spec : {M : Type 1} → statement M
@@ -108,20 +118,10 @@ complete-spec =
     fill-flagged-requires
     (λ c. omega (arith, long (c .before), cells (merged-at (c .before))))
     (λ c. sym (answer-long (c .before .before)))
-    (λ c κs. omega (arith, answer-long (c .before .before .before), start (merged-at (c .before .before .before)) .pre .1 .1 .1 .0))
-    (λ c. omega (
-      arith,
-      merged-at (c .before .before .before .before .before .before) .merge-flags .ensures .0,
-      few
-          (merged-at (c .before .before .before .before .before .before)),
-    ))
-    (λ c. sym (size (merged-at (c .before .before .before .before .before .before .before))))
-    (λ c κs. omega (
-      arith,
-      size (merged-at (c .before .before .before .before .before .before .before .before)),
-      start
-          (merged-at (c .before .before .before .before .before .before .before .before)) .pre .1 .1 .1 .1,
-    ))
+    (λ c κs. let f = c .before .before .before in omega (arith, answer-long f, start (merged-at f) .pre .1 .1 .1 .0))
+    (λ c. let d = flagged (c .before .before) in omega (arith, d .merge-flags .ensures .0, few d))
+    (λ c. sym (size (flagged (c .before .before .before))))
+    (λ c κs. let d = flagged (c .before .before .before .before) in omega (arith, size d, start d .pre .1 .1 .1 .1))
     (λ c. search needs)
     (λ c. search needs)
     returns)

@@ -77,7 +77,7 @@ fill-requires c κs =
     let s = start (first d) in (
       s .pre .0,
       (
-        (c .before .before .before .before .before .before .before .before .before .before .before .lend .ensures, s .pre .1 .0),
+        (first d .before .before .lend .ensures, s .pre .1 .0),
         (fills d, stay-size (first d), rw (to-fill d) (s .pre .1 .1 .1)),
       ),
     )

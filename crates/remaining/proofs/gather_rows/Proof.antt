@@ -43,9 +43,12 @@ rows-few fs (suc r) y = omega (
   rows-few fs r (drop (length fs) y),
 )
 
+abbrev entered : tie.At-loop Inv-loop μ-loop → tie.Start Inv-loop μ-loop
+entered c = c .before .before .before .before .before
+
 module _ (c : tie.In-loop Inv-loop μ-loop) where
   abbrev start : tie.Start Inv-loop μ-loop
-  start = c .before .before .before .before .before .before
+  start = entered (c .before)
 
   abbrev turn : tie.At-loop Inv-loop μ-loop
   turn = c .before
@@ -94,25 +97,6 @@ module _ (c : tie.After-gather Inv-loop μ-loop) where
   stored = lay-rest (turn lent .loop .at) gathered (turn lent .loop .s) (omega (arith, fits lent, few, count))
       (rw (all lent) at (c .gather .ensures .1))
 
-loop-holds : tie.Need-loop-holds Inv-loop μ-loop
-loop-holds c = search needs
-
-part-gather-end : tie.Need-part-gather-end Inv-loop μ-loop
-part-gather-end c = omega (arith, room c)
-
-part-gather-start-2 : tie.Need-part-gather-start-2 Inv-loop μ-loop
-part-gather-start-2 c = omega (arith, fits (c .before))
-
-gather-requires : tie.Need-gather-requires Inv-loop μ-loop
-gather-requires c κs = (
-  rw (all (c .before .before)) (row (c .before .before)),
-  omega
-      (arith, fits (c .before .before), left (c .before .before)),
-)
-
-add-at : tie.Need-add-at Inv-loop μ-loop
-add-at c = omega (arith, few (c .before .before), fits (lent (c .before .before)))
-
 loop-again : tie.Need-loop-again Inv-loop μ-loop
 loop-again c =
     let g = c .before .before in
@@ -145,7 +129,7 @@ loop-again c =
 returns : tie.Need-returns Inv-loop μ-loop
 unfolding rightRows
 returns c =
-    let none = drop-of-length-le (c .before .before .before .before .before .before .args .lengths .now) (c .loop-test .left) in
+    let none = drop-of-length-le (entered (c .before) .args .lengths .now) (c .loop-test .left) in
     sym (lay-none (c .before .loop .at) (c .before .loop .s)) ∙ rw none at (c .before .loop .inv .3)
 
 pub gather-rows-spec : {M : Type 1} → statement M
@@ -154,17 +138,17 @@ gather-rows-spec =
     (tie.spec
     Inv-loop
     μ-loop
-    loop-holds
     (λ c. search needs)
     (λ c. search needs)
     (λ c. search needs)
-    part-gather-end
     (λ c. search needs)
-    part-gather-start-2
+    (λ c. omega (arith, room c))
     (λ c. search needs)
-    gather-requires
+    (λ c. omega (arith, fits (c .before)))
     (λ c. search needs)
-    add-at
+    (λ c κs. let d = c .before .before in (rw (all d) (row d), omega (arith, fits d, left d)))
+    (λ c. search needs)
+    (λ c. let g = c .before .before in omega (arith, few g, fits (lent g)))
     (λ c. search needs)
     (λ c. search needs)
     loop-again

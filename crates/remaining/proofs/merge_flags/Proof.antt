@@ -48,12 +48,6 @@ lost-flags-requires c κs =
     let s = c .before .before in
     all-map (λ (i : ℕ). i < s .args .n) (λ (i : ℕ). i < 96) (s .args .lost .now) (λ i h. omega (arith, s .pre .0)) (s .pre .1)
 
-slice-aggregate-merge : tie.Need-slice-aggregate-merge
-slice-aggregate-merge c = sym (size (c .before))
-
-slice-aggregate-merge-2 : tie.Need-slice-aggregate-merge-2
-slice-aggregate-merge-2 c = sym (count (c .before .before) _)
-
 merge-requires : tie.Need-merge-requires
 merge-requires c κs =
     let d = c .before .before .before in
@@ -80,9 +74,9 @@ merge-flags-spec =
     (tie.spec
     lost-flags-requires
     (λ c. omega (arith, long c, start c .pre .0))
-    slice-aggregate-merge
+    (λ c. sym (size (c .before)))
     (λ c. omega (arith, start (c .before) .pre .0))
-    slice-aggregate-merge-2
+    (λ c. sym (count (c .before .before) _))
     (λ c. search needs)
     merge-requires
     returns)

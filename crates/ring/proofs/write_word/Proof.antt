@@ -49,7 +49,8 @@ module _ (c : tie.After-encode) where
 
   is-made : c .encode .last .1 .1 .1 .1 .1 .0 ≡ made
   is-made = encoded-by (passed s) (take (length (s .args .word .now)) blank) (left (c .encode .result) (c .encode .last .1 .1 .1 .1 .1 .0))
-      (size given ∙ passed s .word) (rw (shaped given .lengths .is, shaped given .points .is, shaped given .factors .is) at (c .encode .ensures))
+      (size given ∙ passed s .word) (rw (shaped given .lengths .is, shaped given .points .is, shaped given .factors .is) at
+      (c .encode .ensures))
 
   array : Front (length (s .args .word .now)) (c .encode .last .1 .1 .1 .1 .1 .0 ++ drop (length (s .args .word .now)) blank) made
   array = given-back (length (s .args .word .now)) (drop (length (s .args .word .now)) blank) is-made

@@ -46,20 +46,21 @@ evaluate-some-requires c κs =
     let i = turn .loop .i in
     let n = turned .some .result in
     let xs = s .args .xs .now in
-    let (field, ((points, nodes, coefficients), (some, enough, room))) = s .pre in
+    let ((degree, table), ((points, nodes, coefficients), (some, enough, room))) = s .pre in
     let e : i + n - i ≡ n = omega arith in
     let size : length (part i (i + n - i) xs) ≡ i + n - i = length-part i (i + n - i) xs (omega (arith, within turned)) in
     let long : length (turn .loop .s) ≡ length (s .args .s .now) = ap length (turn .loop .inv .1) ∙ length-lay _ _ _ in (
-      field,
-      (
-        (
-          symbols-part _ i (i + n - i) xs (omega (arith, within turned)) (λ k h. symbol-at _ xs (i + k) points (omega
-              (arith, within turned))),
-          nodes,
-          coefficients,
-        ),
-        ((some, enough, omega (arith, size, long, room, within turned)), omega (arith, size, turned .some .ensures)),
-      ),
+      record {
+        lent = record { degree = degree; table = table };
+        points = symbols-part _ i (i + n - i) xs (omega (arith, within turned))
+            (λ k h. symbol-at _ xs (i + k) points (omega (arith, within turned)));
+        nodes-in = nodes;
+        coefficients = coefficients;
+        some = some;
+        enough = enough;
+        room = omega (arith, size, long, room, within turned);
+      },
+      omega (arith, size, turned .some .ensures),
     )
 
 loop-again : tie.Need-loop-again Inv-loop μ-loop

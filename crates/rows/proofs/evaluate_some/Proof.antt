@@ -1,8 +1,8 @@
 -- `rows::evaluate_some` evaluates at the rounded list of points, and stores the values that count.
 -- Assumes nothing.
-use mathlib.Core.Path.{sym, ap, _∙_}
+use mathlib.Core.Path.{_≡_, sym, ap, _∙_}
 use mathlib.Core.List.{List}
-use Prim.Native.Nat.{ℕ, _+_, _*_, _/_, _≤_}
+use Prim.Native.Nat.{ℕ, _+_, _*_, _/_, _%_, _≤_}
 use native.Mathlib.Omega.{arith}
 use lib.ListN.{length}
 use lib.Seq.{length-take-le}
@@ -22,23 +22,33 @@ held c = c .before .before
 sixteens : (n : ℕ) → n ≤ 96 → (n ≤ (n + 15) / 16 * 16) × ((n + 15) / 16 * 16 ≤ 96)
 sixteens n most = (omega arith, omega arith)
 
-count : (c : tie.After-ys) → let n = length (start c .args .xs .now) in (n ≤ (n + 15) / 16 * 16) × ((n + 15) / 16 * 16 ≤ 96)
-count c = let (field, (symbols, (counts, few))) = start c .pre in sixteens _ few
+whole : (n : ℕ) → (n + 15) / 16 * 16 % 16 ≡ 0
+whole n = omega arith
 
 few : (c : tie.After-ys) → length (start c .args .xs .now) ≤ 96
-few c = let (field, (symbols, (counts, most))) = start c .pre in most
+few c = start c .pre .1
+
+count : (c : tie.After-ys) → let n = length (start c .args .xs .now) in (n ≤ (n + 15) / 16 * 16) × ((n + 15) / 16 * 16 ≤ 96)
+count c = sixteens _ (few c)
 
 evaluate-whole-requires : tie.Need-evaluate-whole-requires
 evaluate-whole-requires c κs =
     let stored = c .before .before in
     let first = held stored in
     let n = count first in
-    let (field, ((points, nodes, coefficients), ((some, enough, room), most))) = start first .pre in (
-      field,
-      (
-        (rounded-in (start first .args .xs .now) 96 _ (stored .before .store .ensures) (n .0) (n .1) _ points, nodes, coefficients),
-        (some, enough, omega (arith, rounded (start first .args .xs .now) 96 _ (stored .before .store .ensures) (n .0) (n .1), n .1)),
-      ),
+    let xs = start first .args .xs .now in
+    let g = start first .pre .0 in
+    let size = rounded xs 96 _ (stored .before .store .ensures) (n .0) (n .1) in (
+      record {
+        lent = g .lent;
+        points = rounded-in xs 96 _ (stored .before .store .ensures) (n .0) (n .1) _ (g .points);
+        nodes-in = g .nodes-in;
+        coefficients = g .coefficients;
+        some = g .some;
+        enough = g .enough;
+        room = omega (arith, n .1);
+      },
+      rw size (whole (length xs)),
     )
 
 abbrev made : tie.After-vs2 → tie.After-vs
@@ -75,8 +85,7 @@ evaluate-some-spec =
     evaluate-whole-requires
     valued-in
     (λ c. sym (length-take-le _ _ (valued-in (c .before))))
-    (λ c κs. let e = c .before .before in let (field, (symbols, ((some, enough, room), most))) =
-    start (held (made e .before .before)) .pre in
-    rw (length-take-le _ _ (valued-in e)) room)
+    (λ c κs. let e = c .before .before in
+    rw (length-take-le _ _ (valued-in e)) (start (held (made e .before .before)) .pre .0 .room))
     (λ c. c .before .before .store2 .kept .1 .0)
     returns)

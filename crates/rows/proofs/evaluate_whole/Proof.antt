@@ -8,7 +8,7 @@ use lib.ListN.{length}
 use Rattle.patch.specs.Parts.{lay}
 use Rattle.patch.proofs.Parts.{length-lay}
 use Rattle.rows.proofs.Symbols.{symbol-at, symbols-whole}
-use Rattle.rows.proofs.Evaluation.{Evaluating, inner, values-start, values-fit, values-in, values-step, values-end}
+use Rattle.rows.proofs.Evaluation.{inner, values-start, values-fit, values-in, values-step, values-end}
 use borrow.Author.Needs.{needs}
 use Rattle.rows.proofs.evaluate_whole.Statement.{statement}
 use Rattle.rows.proofs.evaluate_whole.Tie as tie
@@ -34,27 +34,15 @@ multiplied c = reading (c .before .before .before)
 abbrev ended : tie.After-add-constant-arg Inv-loop μ-loop → tie.At-loop Inv-loop μ-loop
 ended c = c .before .before .before
 
-given : (c : tie.Start Inv-loop μ-loop) → let a = c .args in
-    Evaluating (a .degree) (a .table .now) (a .xs .now) (a .nodes .now) (a .us .now) (a .s .now) (a .at)
-given c = let ((degree, table), ((points, nodes, coefficients), (some, enough, room))) = c .pre in record {
-  lent = record { degree = degree; table = table };
-  points = points;
-  nodes-in = nodes;
-  coefficients = coefficients;
-  some = some;
-  enough = enough;
-  room = room;
-}
-
 loop-holds : tie.Need-loop-holds Inv-loop μ-loop
 loop-holds c =
     let first = c .before .before in
-    let g = given (start first) in
+    let g = start first .pre .0 in
     (g .some, omega arith, values-start g (first .clear .ensures))
 
 -- a turn's node is one of those that there are
 places : (c : tie.In-loop Inv-loop μ-loop) → c .before .loop .j ≤ length (start (cleared (c .before)) .args .nodes .now)
-places c = omega (arith, c .before .loop .inv .1, given (start (cleared (c .before))) .enough)
+places c = omega (arith, c .before .loop .inv .1, start (cleared (c .before)) .pre .0 .enough)
 
 multiply-requires : tie.Need-multiply-requires Inv-loop μ-loop
 multiply-requires c κs =
@@ -62,7 +50,7 @@ multiply-requires c κs =
     let turn = here .before .loop in
     let first = cleared (here .before) in
     let a = start first .args in
-    let g = given (start first) in
+    let g = start first .pre .0 in
     let more = here .loop-test .taken in (
       (
         g .lent .degree,
@@ -85,14 +73,14 @@ loop-again c =
     let then = c .before .before .multiply .ensures in (
       omega (arith, more),
       omega (arith, turn .inv .1),
-      values-step (given (start first)) (first .clear .ensures) (turn .j) (omega (arith, more)) (turn .inv .1) (turn .inv .2) then,
+      values-step (start first .pre .0) (first .clear .ensures) (turn .j) (omega (arith, more)) (turn .inv .1) (turn .inv .2) then,
     )
 
 add-constant-requires : tie.Need-add-constant-requires Inv-loop μ-loop
 add-constant-requires c κs =
     let last = ended c in
     let first = cleared last in
-    values-fit (given (start first)) (first .clear .ensures) (last .loop .j) (last .loop .inv .2)
+    values-fit (start first .pre .0) (first .clear .ensures) (last .loop .j) (last .loop .inv .2)
 
 same-length : tie.Need-same-length Inv-loop μ-loop
 same-length c =
@@ -105,7 +93,7 @@ returns c =
     let last = ended after in
     let first = cleared last in
     let one : last .loop .j ≡ 1 = omega (arith, last .loop .inv, after .before .before .loop-test .left) in
-    values-end (given (start first)) (first .clear .ensures) one (last .loop .inv .2)
+    values-end (start first .pre .0) (first .clear .ensures) one (last .loop .inv .2)
     (c .before .before .add-constant .ensures)
 
 pub evaluate-whole-spec : {M : Type 1} → statement M
@@ -115,5 +103,5 @@ evaluate-whole-spec =
     (λ c. omega (arith, c .before .before .loop-test .taken))
     (λ c. omega (arith, reading c .before .loop .inv .1, reading c .loop-test .taken)) multiply-requires
     (λ c. omega (arith, multiplied c .loop-test .taken)) (λ c. omega (arith, multiplied c .loop-test .taken))
-    loop-again (λ c. omega (arith, given (start (cleared (c .before .before))) .some)) add-constant-requires
+    loop-again (λ c. omega (arith, start (cleared (c .before .before)) .pre .0 .some)) add-constant-requires
     same-length returns)

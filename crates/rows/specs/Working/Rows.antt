@@ -6,13 +6,15 @@
 --   invertedAt             a list when a part of it is written with the inverses of round j
 --   constantAdded c l at n the same where c was added to n symbols
 --   newtonValues d nodes us xs   the values at xs of the polynomial with the Newton coefficients us at the nodes
+--   evaluatedAt            a list when a part of it is written with these values
 --   Inverses d xs k ws     ws are symbols, and have the inverses of k rounds, those of round j from place 96·j on
---   Inverting              what taking the inverses of a round asks for; t is the field's table
+--   Inverting, Evaluating  what taking the inverses of a round, and what evaluation asks for; t is the field's table
 use mathlib.Core.Path.{_≡_}
 use Prim.Native.Nat.{ℕ, _+_, _-_, _*_, _≤_, _<_}
 use mathlib.Core.List.{List, map}
 use lib.ListN.{length, getD}
 use Rattle.patch.specs.Patch.{patch}
+use Rattle.patch.specs.Parts.{lay}
 use Rattle.field.specs.Symbols.{IsSymbol, plus, over}
 use Rattle.field.specs.Arithmetic.{gf}
 use Rattle.field.specs.Working.Tables.{Lent}
@@ -40,6 +42,9 @@ constantAdded c l at n = patch at n (λ k. plus (getD l (at + k) 0) c) l
 abbrev pub newtonValues : ℕ → List ℕ → List ℕ → List ℕ → List ℕ
 newtonValues d nodes us xs = map (newtonValue (gf d) (length us) nodes us) xs
 
+abbrev pub evaluatedAt : ℕ → List ℕ → List ℕ → List ℕ → List ℕ → ℕ → List ℕ
+evaluatedAt d nodes us xs l at = lay at (newtonValues d nodes us xs) l
+
 pub record Inverses (d : ℕ) (xs : List ℕ) (k : ℕ) (ws : List ℕ) : Type 0 where
   pub room : 96 * k ≤ length ws
   pub symbols : All (IsSymbol d) ws
@@ -49,4 +54,13 @@ pub record Inverting (d : ℕ) (t xs : List ℕ) (j : ℕ) (l : List ℕ) (at : 
   pub lent : Lent d t
   pub points : Points d xs
   pub place : j < length xs
+  pub room : at + length xs ≤ length l
+
+pub record Evaluating (d : ℕ) (t xs nodes us l : List ℕ) (at : ℕ) : Type 0 where
+  pub lent : Lent d t
+  pub points : All (IsSymbol d) xs
+  pub nodes-in : All (IsSymbol d) nodes
+  pub coefficients : All (IsSymbol d) us
+  pub some : 0 < length us
+  pub enough : length us ≤ length nodes
   pub room : at + length xs ≤ length l

@@ -30,27 +30,21 @@ step-requires : tie.Need-step-requires Inv-loop μ-loop
 step-requires c κs =
     let turn = c .before .before .before .before .before in
     let stored = held turn in
-    let pre = start (stored .before) .pre in
-    let (fs, lines, same) = turn .loop .inv .3 (pre .1 .1 .0) (pre .1 .1 .1) in (
-      (pre .0 .0, pre .0 .1, pre .0 .2, padded _ (omega (arith, pre .1 .0 .0)) (stored .store .ensures)),
+    let ((degree, table, points), ((short, some, most, room), (es, begun))) = start (stored .before) .pre in
+    let (fs, lines, same) = turn .loop .inv .3 es begun in (
+      (degree, table, points, padded _ (omega (arith, short)) (stored .store .ensures)),
       (
         (
           c .before .before .before .before .loop-test .taken,
-          pre .1 .0 .0,
-          pre .1 .0 .1,
-          pre .1 .0 .2,
-          omega (arith, pre .1 .0, turn .loop .inv .2),
+          short,
+          some,
+          most,
+          omega (arith, room, turn .loop .inv .2),
           omega (arith, turn .loop .inv .1),
         ),
         (fs, lines),
       ),
     )
-
-add-i : tie.Need-add-i Inv-loop μ-loop
-add-i c = search needs
-
-loop-less : tie.Need-loop-less Inv-loop μ-loop
-loop-less c = search needs
 
 loop-again : tie.Need-loop-again Inv-loop μ-loop
 loop-again c =
@@ -63,9 +57,6 @@ loop-again c =
       called .step .kept .1 .1 .1 .1 .1 .1 .1 .0 ∙ inv .2,
       left-turn _ _ _ _ _ _ _ _ _ _ below (inv .3) (called .step .ensures),
     )
-
-same-length : tie.Need-same-length Inv-loop μ-loop
-same-length c = search needs
 
 returns : tie.Need-returns Inv-loop μ-loop
 returns c = left-none _ _ _ _ _ _ _ _ (omega arith) (c .before .loop .inv .3)
@@ -82,8 +73,8 @@ run-spec =
     (λ c. search needs)
     (λ c. search needs)
     step-requires
-    add-i
-    loop-less
+    (λ c. search needs)
+    (λ c. search needs)
     loop-again
-    same-length
+    (λ c. search needs)
     returns)

@@ -5,15 +5,6 @@ use borrow.Author.Needs.{needs}
 use Rattle.solver.proofs.start.Statement.{statement}
 use Rattle.solver.proofs.start.Tie as tie
 
-first-line-requires : tie.Need-first-line-requires
-first-line-requires c κs = search needs
-
-row-lines-requires : tie.Need-row-lines-requires
-row-lines-requires c κs = search needs
-
-same-length : tie.Need-same-length
-same-length c = search needs
-
 returns : tie.Need-returns
 returns c =
     let rows = c .before .before .before in
@@ -22,4 +13,4 @@ returns c =
     starts _ _ _ _ _ (pre .0 .0) (pre .0 .1) (pre .1) (first .first-line .ensures) (rows .row-lines .ensures)
 
 pub start-spec : {M : Type 1} → statement M
-start-spec = tie.close (tie.spec first-line-requires row-lines-requires same-length returns)
+start-spec = tie.close (tie.spec (λ c κs. search needs) (λ c κs. search needs) (λ c. search needs) returns)

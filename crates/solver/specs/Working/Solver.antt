@@ -28,7 +28,8 @@ module _ (d : ℕ) (xs : List ℕ) (s : ℕ) where
 
   abbrev pub Runs : (leads space leads′ space′ : List ℕ) → Type 0
   Runs leads space leads′ space′ =
-      (es : List (Line ℕ)) → HoldsLines d (length xs) s 0 leads space es → HoldsLines d (length xs) s (length xs) leads′ space′ (run (gf d) ℕ-discrete s xs es)
+      (es : List (Line ℕ)) → HoldsLines d (length xs) s 0 leads space es
+      → HoldsLines d (length xs) s (length xs) leads′ space′ (run (gf d) ℕ-discrete s xs es)
 
 pub record RowsAre (ns xs us : List ℕ) (rows : List (Row ℕ)) : Type 0 where
   pub counts : countsOf rows ≡ ns

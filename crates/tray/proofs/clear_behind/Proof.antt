@@ -8,11 +8,17 @@ use borrow.Author.Needs.{needs}
 use Rattle.tray.proofs.clear_behind.Statement.{statement}
 use Rattle.tray.proofs.clear_behind.Tie as tie
 
+returns : tie.Need-returns
+returns c =
+    let s = c .before .before .before .before .before .before in
+    let w = s .args .space .now in
+    let k = c .before .before .clear in
+    let t = c .before .before .before .before in
+    subst (λ (b : Bool). k .last .0 ≡ clearedIf b w) (sym (t .if1 .taken)) (cleared-by w (k .ensures) (s .pre))
+
 pub clear-behind-spec : {M : Type 1} → statement M
 clear-behind-spec = tie.close (tie.spec
     (λ c κs. search needs)
     (λ c. search needs)
-    (λ c. let s = c .before .before .before .before .before .before in
-    subst (λ (b : Bool). c .before .before .clear .last .0 ≡ clearedIf b (s .args .space .now)) (sym (c .before .before .before .before .if1 .taken))
-    (cleared-by (s .args .space .now) (c .before .before .clear .ensures) (s .pre)))
-    (λ c. let s = c .before .before in subst (λ (b : Bool). s .args .space .now ≡ clearedIf b (s .args .space .now)) (sym (c .if1 .left)) refl))
+    returns
+    (λ c. let w = c .before .before .args .space .now in subst (λ (b : Bool). w ≡ clearedIf b w) (sym (c .if1 .left)) refl))

@@ -525,7 +525,8 @@ module _ {M : Type 1} (𝓤 : URA M) (H : Heap 𝓤) (A : Atoms 𝓤) (W : Given
                   (lending.lends-mark 𝓤 H A W at-mem run κ₀ κ₁ κ₂ κ₃ κ₅ κ₆ κ₇ q₀ q₁ q₂ q₃ q₅ q₆ q₇ d τ x₀ x₁ x₂ x₃ x₄ x₅ x₆ x₇
                   d-fits τ-fits (t .i) (t .arrays) (t .flags) (t .space) (sizes t .1) (sizes t .2) (sizes t .3) i-fits
                   lies) $ await ! tt $ pick ! (λ p. split ! $ move ! (1 ∷ []) $ split ! $ move ! (2 ∷ []) $
-                  calls-at ! fm (Mark 𝓤 H A at-mem run) known-mark (to-mark p (t .i) (t .arrays) (t .flags) (t .space)) (and-then ! (load ! (from ! (stop !)) (look ! 39 refl)) (and-then ! (load ! (from ! (stop !)) (look !
+                  calls-at ! fm (Mark 𝓤 H A at-mem run) known-mark (to-mark p (t .i) (t .arrays) (t .flags) (t .space))
+                  (and-then ! (load ! (from ! (stop !)) (look ! 39 refl)) (and-then ! (load ! (from ! (stop !)) (look !
                   63 refl)) (and-then ! (load ! (from ! (stop !)) (look ! 61 refl)) (and-then ! (load ! (from ! (stop !)) (look
                   ! 59 refl)) (and-then ! (load ! (from ! (stop !)) (look ! 57 refl)) (and-then ! (load ! (from ! (stop !))
                   (look ! 55 refl)) (and-then ! (load ! (from ! (stop !)) (look ! 53 refl)) (and-then ! (load ! (from ! (stop

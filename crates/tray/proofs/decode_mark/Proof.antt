@@ -40,9 +40,9 @@ end-mark-requires c κs =
 
 returns : tie.Need-returns
 returns c =
-    let s = c .before .before .before .before .before .before .before .before .before .before .before .before .before .before .before .before .before .before .before .before .before in
-    let a = s .args in
     let e = c .before .before .before .before .before .before .before .before .before in
+    let s = e .before .before .before .before .before .before .before .before .before .before .before .before in
+    let a = s .args in
     let k = c .before .before .before in
     let n = cells (D s .code) in
     let u = e .end-mark .last .1 .1 .1 .1 .1 .1 .0 in

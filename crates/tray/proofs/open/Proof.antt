@@ -50,5 +50,6 @@ open-spec = tie.close (tie.spec
     (λ c κs. search needs)
     (λ c κs. let p = all-passed (c .before) in (p .common .counts, p .common .proper, p .space))
     (λ c. search needs)
-    (λ c. (number (c .before .before .before .before .before), opened-some _ _ _ _ (c .before .before .before .before .if1 .taken) (c .before .before .share .ensures)))
+    (λ c. let t = c .before .before .before .before in
+    (number (t .before), opened-some _ _ _ _ (t .if1 .taken) (c .before .before .share .ensures)))
     (λ c. (number (c .before), opened-none _ _ _ (c .if1 .left))))

@@ -4,15 +4,18 @@ use mathlib.Core.Path.{_≡_, sym, ap, _∙_, subst}
 use mathlib.Core.List.{List}
 use Prim.Native.Nat.{ℕ, _+_, _≤_}
 use native.Mathlib.Omega.{arith}
-use lib.ListN.{length, replicate, length-replicate}
+use lib.ListN.{length, drop, replicate, length-replicate}
+use Rattle.patch.specs.Patch.{patch}
 use Rattle.patch.specs.Parts.{part, lay}
+use Rattle.patch.proofs.Parts.{length-lay}
 use Rattle.field.specs.Symbols.{IsSymbol}
-use Rattle.field.specs.Working.Tables.{IsTable}
+use Rattle.field.specs.Working.Tables.{tableBytes, IsTable}
 use Rattle.poly.specs.Poly.{All}
 use Rattle.rows.specs.Working.Rows.{Inverses}
 use Rattle.rows.proofs.Symbols.{symbols-zeros}
 use Rattle.codes.specs.Code.{Code, codeOf, largest}
 use Rattle.codes.specs.Checks.{spaceBytes}
+use Rattle.conditions.specs.Working.{mostInverses}
 use Rattle.tray.specs.Working.{Begun}
 use Rattle.tray.proofs.Places.{lent-row, row-back}
 use Rattle.tray.proofs.Shares.{zeros-part, long-is, front-is, behind-is, rest-is}
@@ -40,44 +43,75 @@ module _ (c : tie.After-clear) where
   abbrev w₂ : List ℕ
   w₂ = c .clear .last .0
 
-  size : length table ≡ 256
+  laid : w₁ ≡ lay 0 table lent
+  laid = c .before .before .before .before .store .ensures
+
+  size : length table ≡ tableBytes
   size = omega arith
 
-  room : 256 + 9216 ≤ length lent
+  room : tableBytes + mostInverses ≤ length lent
   room = omega (arith, start .pre .2)
 
-  zeros : part 256 9216 w₂ ≡ replicate 9216 0
-  zeros = zeros-part 256 9216 table lent w₁ w₂ (c .before .before .before .before .store .ensures) (c .clear .ensures) size room
+  abbrev d : ℕ
+  d = start .args .degree
+
+  zeros : part tableBytes mostInverses w₂ ≡ replicate mostInverses 0
+  zeros = zeros-part tableBytes mostInverses table lent w₁ w₂ laid (c .clear .ensures) size room
 
 inverses-requires : tie.Need-inverses-requires
 inverses-requires c κs =
     let o = c .before .before .before .before in
     let p = start o .pre in
-    let is = lent-row 256 9216 (w₂ o) ∙ zeros o in (
+    let is = lent-row tableBytes mostInverses (w₂ o) ∙ zeros o in (
       (p .0, p .1, c .before .before .before .before .before .before .before .before .before .before .before .lend .ensures),
-      (ap length is ∙ length-replicate {A = ℕ} 9216 0, subst (All (IsSymbol (start o .args .degree))) (sym is) (symbols-zeros (start o .args .degree) 9216)),
+      (ap length is ∙ length-replicate {A = ℕ} mostInverses 0, subst (All (IsSymbol (d o))) (sym is) (symbols-zeros (d o) mostInverses)),
     )
+
+-- what the inverses leave
+module _ (c : tie.After-inverses) where
+  abbrev done : tie.After-clear
+  done = c .before .before .before .before .before
+
+  abbrev v : List ℕ
+  v = c .inverses .last .1 .1 .1 .1 .0
+
+  sized : length v ≡ mostInverses
+  sized = c .inverses .kept .1 .1 .1 .1 .0 ∙ ap length (lent-row tableBytes mostInverses (w₂ done) ∙ zeros done)
+      ∙ length-replicate {A = ℕ} mostInverses 0
+
+  abbrev t : w₁ done ≡ lay 0 (table done) (lent done)
+  t = laid done
+
+  abbrev s : w₂ done ≡ patch tableBytes mostInverses (λ k. 0) (w₁ done)
+  s = done .clear .ensures
+
+  long : length (lay tableBytes v (w₂ done)) ≡ length (lent done)
+  long = long-is tableBytes mostInverses (table done) (lent done) (w₁ done) (w₂ done) t s (size done) (room done) v sized
+
+  front : part 0 tableBytes (lay tableBytes v (w₂ done)) ≡ table done
+  front = front-is tableBytes mostInverses (table done) (lent done) (w₁ done) (w₂ done) t s (size done) (room done) v sized
+
+  middle : part tableBytes mostInverses (lay tableBytes v (w₂ done)) ≡ v
+  middle = behind-is tableBytes mostInverses (table done) (lent done) (w₁ done) (w₂ done) t s (size done) (room done) v sized
+
+  behind : drop spaceBytes (lay tableBytes v (w₂ done)) ≡ drop spaceBytes (lent done)
+  behind = rest-is tableBytes mostInverses (table done) (lent done) (w₁ done) (w₂ done) t s (size done) (room done) v sized spaceBytes
+      (omega arith)
 
 returns : tie.Need-returns
 returns c =
-    let o = c .before .before .before .before .before .before .before in
     let i = c .before .before in
-    let v = i .inverses .last .1 .1 .1 .1 .0 in
-    let sized : length v ≡ 9216 = i .inverses .kept .1 .1 .1 .1 .0 ∙ ap length (lent-row 256 9216 (w₂ o) ∙ zeros o) ∙ length-replicate {A = ℕ} 9216 0 in
-    let t = o .before .before .before .before .store .ensures in
-    let s = o .clear .ensures in
-    let long = long-is 256 9216 (table o) (lent o) (w₁ o) (w₂ o) t s (size o) (room o) v sized in
-    subst (Begun (code o) (lent o)) (sym (row-back 256 9216 v (w₂ o) sized (omega (arith, room o, o .clear .kept, o .before .before .before .before .store .kept))))
+    let o = done i in
+    let fits : tableBytes + mostInverses ≤ length (w₂ o) = omega (arith, room o, long i, length-lay tableBytes (v i) (w₂ o)) in
+    subst (Begun (code o) (lent o)) (sym (row-back tableBytes mostInverses (v i) (w₂ o) (sized i) fits))
     (record {
       shared = record {
-        room = omega (arith, long, start o .pre .2);
-        table = subst (IsTable (code o .degree)) (sym (front-is 256 9216 (table o) (lent o) (w₁ o) (w₂ o) t s (size o) (room o) v sized))
-            (o .before .before .before .before .before .before .before .lend .ensures);
-        inverses = subst (Inverses (code o .degree) (code o .points) (largest (code o .lengths)))
-            (sym (behind-is 256 9216 (table o) (lent o) (w₁ o) (w₂ o) t s (size o) (room o) v sized)) (i .inverses .ensures);
+        room = omega (arith, long i, start o .pre .2);
+        table = subst (IsTable (code o .degree)) (sym (front i)) (o .before .before .before .before .before .before .before .lend .ensures);
+        inverses = subst (Inverses (code o .degree) (code o .points) (largest (code o .lengths))) (sym (middle i)) (i .inverses .ensures);
       };
-      long = long;
-      behind = rest-is 256 9216 (table o) (lent o) (w₁ o) (w₂ o) t s (size o) (room o) v sized spaceBytes (omega arith);
+      long = long i;
+      behind = behind i;
     })
 
 pub share-spec : {M : Type 1} → statement M
@@ -86,6 +120,7 @@ share-spec = tie.close (tie.spec
     (λ c. search needs)
     (λ c κs. search needs)
     (λ c κs. search needs)
+    (λ c. search needs)
     (λ c. search needs)
     (λ c. search needs)
     (λ c. search needs)

@@ -35,7 +35,8 @@ returns-2 c = λ es count leads.
     let r = c .before .before .another .result in
     let bound = c .before .before .before .args .t * c .before .before .before .args .lines in
     let below : r < length es = omega (arith, c .before .before .another .ensures .0, c .before .if1 .left) in
-    let exactly = beyond-lead bound es (c .before .before .before .args .m) r (c .before .before .another .ensures .1 es count leads) below in
+    let exactly = beyond-lead bound es (c .before .before .before .args .m) r
+    (c .before .before .another .ensures .1 es count leads) below in
     let lead = leads r below in (
       λ e b. let low = leb-true _ bound e in let high = exactly .0 b in omega (arith, lead),
       λ e. let high = leb-false _ bound e in exactly .1 (omega (arith, lead)),

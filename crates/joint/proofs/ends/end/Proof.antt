@@ -1,13 +1,14 @@
 -- `ends::end` answers a code array with itself, and has the rest located.
 -- Assumes nothing.
-use mathlib.Core.Path.{_≡_, sym, ap₂, _∙_, subst}
+use mathlib.Core.Path.{_≡_, sym, ap, ap₂, _∙_, subst}
 use mathlib.Core.List.{List}
 use Prim.Native.Nat.{ℕ, _≤_}
 use native.Mathlib.Omega.{arith}
-use lib.ListN.{length, take, replicate}
+use lib.ListN.{length, take, replicate, length-replicate}
 use lib.Seq.{length-take-le}
 use Rattle.patch.proofs.Parts.{take-lay}
 use Rattle.codes.specs.Code.{Code, codeOf}
+use Rattle.codes.proofs.Parts.{take-replicate}
 use Rattle.ending.specs.Endings.{Ends, Corrects}
 use Rattle.ending.proofs.Model.{Outcome}
 use Rattle.ending.proofs.ModelEnds.{model-ends}
@@ -15,7 +16,6 @@ use Rattle.ending.proofs.ModelCode.{code-ends}
 use Rattle.joint.specs.Promises.{buffers}
 use Rattle.conditions.specs.Working.{reducedPoints, reducedValues}
 use Rattle.conditions.proofs.Reduced.{most-points, length-values, all-reduced}
-use Rattle.joint.proofs.Cleared.{zeros-front}
 use borrow.Author.Needs.{needs}
 use Rattle.joint.proofs.ends.end.Statement.{statement}
 use Rattle.joint.proofs.ends.end.Tie as tie
@@ -60,7 +60,8 @@ module _ (c : tie.After-conditions) where
   points-room = omega (arith, few, c .conditions .kept)
 
   points : take n ps ≡ reducedPoints xs ks
-  points = take-lay (reducedPoints xs ks) (replicate 384 0) (c .conditions .ensures .2) (sym (c .conditions .ensures .0)) (omega (arith, few))
+  points = take-lay (reducedPoints xs ks) (replicate 384 0) (c .conditions .ensures .2) (sym (c .conditions .ensures .0))
+      (omega (arith, few))
 
   values : take n us ≡ reducedValues d xs ks y
   values = take-lay (reducedValues d xs ks y) (replicate 384 0) (c .conditions .ensures .1)
@@ -70,16 +71,14 @@ module _ (c : tie.After-conditions) where
 -- a code array is its own answer
 returns : tie.Need-returns
 returns c = λ lent.
-    let o = c .before .before .before .before .before .before .before .before .before .before .before .before .before in
-    let zero = c .before .before .before .before .before .before .before .before .before in
+    let o = c .before .before .before .before .before .before .before .before .before in
     let p = start o .pre in
     let a = start o .args in
     let zeros = all-reduced (d o) (p .0 .proper .field) (xs o) (ks o) (y o)
-    (rw (values o) at (zero .all-zero .ensures .0 (c .before .before .before .before .before .before .before .before .if1 .taken))) in
-    let array = take-lay (y o) (a .array .now) (c .before .before .before .before .before .before .store .ensures) (p .0 .received .count)
+    (rw (values o) at (c .before .before .before .before .before .all-zero .ensures .0 (c .before .before .before .before .if1 .taken))) in
+    let array = take-lay (y o) (a .array .now) (c .before .before .store .ensures) (p .0 .received .count)
     (omega (arith, p .0 .counts .cells, p .1 .1 .0 .1)) in
-    let flags = zeros-front (length (xs o)) (a .flags .now) (c .before .before .clear .ensures)
-    (omega (arith, p .0 .counts .most-columns, p .1 .1 .0 .2)) in
+    let flags = ap (take (length (xs o))) (p .1 .1 .0 .2) ∙ take-replicate (length (xs o)) 96 0 (p .0 .counts .most-columns) in
     subst (Corrects (code (start o)) (y o) (a .limit) 0) (ap₂ buffers (sym array) (sym flags))
     (code-ends (p .0 .proper) (p .0 .received) zeros (a .limit) lent)
 
@@ -87,14 +86,15 @@ locate-requires : tie.Need-locate-requires
 locate-requires c κs =
     let o = c .before .before .before .before .before .before .before .before .before .before in
     let p = start o .pre in
-    (p .0, (p .1 .0, ((values o, points o), p .1 .1 .0)))
+    (p .0, (p .1 .0, ((values o, points o), (p .1 .1 .0 .0, p .1 .1 .0 .1, ap length (p .1 .1 .0 .2) ∙ length-replicate {A = ℕ} 96 0))))
 
 returns-2 : tie.Need-returns-2
 returns-2 c = λ lent.
-    let o = c .before .before .before .before .before .before .before .before .before .before .before .before .before .before .before .before .before in
+    let l = c .before .before .before .before .before .before in
+    let o = l .before .before .before .before .before .before .before .before .before .before .before in
     let p = start o .pre in
     let a = start o .args in
-    subst (λ (r : Outcome). Ends (code (start o)) (y o) (a .limit) lent (r .0) (r .1)) (c .before .before .before .before .before .before .locate .ensures lent)
+    subst (λ (r : Outcome). Ends (code (start o)) (y o) (a .limit) lent (r .0) (r .1)) (l .locate .ensures lent)
     (model-ends (p .0 .proper) (p .0 .received) (a .limit) (p .1 .0 .0) lent)
 
 pub end-spec : {M : Type 1} → statement M
@@ -106,8 +106,6 @@ end-spec = tie.close (tie.spec
     (λ c. let o = c .before .before .before in sym (length-take-le (n o) (us o) (values-room o)))
     (λ c κs. search needs)
     (λ c κs. search needs)
-    (λ c κs. search needs)
-    (λ c. search needs)
     (λ c. search needs)
     returns
     (λ c. values-room (c .before .before .before .before .before))

@@ -1,6 +1,6 @@
 -- `ends::locate` has the solver run on the conditions, and decides on its lines.
 -- Assumes nothing.
-use mathlib.Core.Path.{_≡_, sym, ap, _∙_, subst₂}
+use mathlib.Core.Path.{_≡_, sym, ap, _∙_, subst, subst₂}
 use mathlib.Core.List.{List}
 use Prim.Native.Nat.{ℕ, suc, _-_, _≤_}
 use native.Mathlib.Omega.{arith}
@@ -14,6 +14,7 @@ use Rattle.solver.specs.Working.Held.{HoldsLines}
 use Rattle.solver.specs.Working.Solver.{RowsAre}
 use Rattle.ending.proofs.Model.{rowsOf, linesOf}
 use Rattle.ending.proofs.ModelRows.{rows-count}
+use Rattle.conditions.specs.Working.{reducedPoints, reducedValues}
 use Rattle.conditions.proofs.Reduced.{most-points, points-symbols, values-symbols, length-values, counts-front}
 use Rattle.joint.proofs.Decisions.{solved-rows}
 use borrow.Author.Needs.{needs}
@@ -21,82 +22,93 @@ use Rattle.joint.proofs.ends.locate.Statement.{statement}
 use Rattle.joint.proofs.ends.locate.Tie as tie
 
 module _ (c : tie.Start) where
+  abbrev d : ℕ
+  d = c .args .degree
+
+  abbrev ps : List ℕ
+  ps = c .args .points .now
+
+  abbrev ks : List ℕ
+  ks = c .args .lengths .now
+
+  abbrev y : List ℕ
+  y = c .args .received .now
+
   abbrev code : Code
-  code = codeOf (c .args .degree) (c .args .points .now) (c .args .lengths .now)
+  code = codeOf d ps ks
 
-  values : All (IsSymbol (c .args .degree)) (c .args .us .now)
-  values = rw (c .pre .1 .1 .0 .0) (values-symbols (c .args .degree) (c .pre .0 .proper .field) (c .args .points .now) (c .args .lengths .now) (c .args .received .now) (c .pre .0 .received .symbols))
+  -- the conditions: their values, and their points
+  values-are : c .args .us .now ≡ reducedValues d ps ks y
+  values-are = c .pre .1 .1 .0 .0
 
-  points : All (IsSymbol (c .args .degree)) (c .args .xs .now)
-  points = rw (c .pre .1 .1 .0 .1) (points-symbols (c .args .points .now) (c .args .degree) (c .args .lengths .now) (c .pre .0 .proper .symbols))
+  points-are : c .args .xs .now ≡ reducedPoints ps ks
+  points-are = c .pre .1 .1 .0 .1
+
+  values : All (IsSymbol d) (c .args .us .now)
+  values = subst (All (IsSymbol d)) (sym values-are) (values-symbols d (c .pre .0 .proper .field) ps ks y (c .pre .0 .received .symbols))
+
+  points : All (IsSymbol d) (c .args .xs .now)
+  points = subst (All (IsSymbol d)) (sym points-are) (points-symbols ps d ks (c .pre .0 .proper .symbols))
 
   count : length (c .args .xs .now) ≡ length (c .args .us .now)
-  count = ap length (c .pre .1 .1 .0 .1)
-      ∙ sym (ap length (c .pre .1 .1 .0 .0) ∙ length-values (c .args .degree) (c .pre .0 .proper .field) (c .args .points .now) (c .args .lengths .now) (c .args .received .now) (c .pre .0 .received .count))
+  count = ap length points-are
+      ∙ sym (ap length values-are ∙ length-values d (c .pre .0 .proper .field) ps ks y (c .pre .0 .received .count))
 
   few : length (c .args .us .now) ≤ 380
-  few = omega (arith, count, ap length (c .pre .1 .1 .0 .1), most-points (c .args .points .now) (c .args .degree) (c .args .lengths .now) (c .pre .0 .counts))
+  few = omega (arith, count, ap length points-are, most-points ps d ks (c .pre .0 .counts))
 
-  are : {s : List ℕ} → s ≡ patch 0 (length (c .args .lengths .now)) (λ l. length (c .args .points .now) - getD (c .args .lengths .now) l 0) (replicate 4 0)
-      → RowsAre (take (length (c .args .lengths .now)) s) (c .args .xs .now) (c .args .us .now) (rowsOf code (c .args .received .now))
+  are : {s : List ℕ} → s ≡ patch 0 (length ks) (λ l. length ps - getD ks l 0) (replicate 4 0)
+      → RowsAre (take (length ks) s) (c .args .xs .now) (c .args .us .now) (rowsOf code y)
   are is = let h = solved-rows (c .pre .0 .proper) (c .pre .0 .received) in record {
-    counts = h .counts ∙ sym (counts-front (c .args .points .now) (c .args .lengths .now) (replicate 4 0) is (omega (arith, c .pre .0 .counts .most-rows)));
-    points = h .points ∙ sym (c .pre .1 .1 .0 .1);
-    values = h .values ∙ sym (c .pre .1 .1 .0 .0);
+    counts = h .counts ∙ sym (counts-front ps ks (replicate 4 0) is (omega (arith, c .pre .0 .counts .most-rows)));
+    points = h .points ∙ sym points-are;
+    values = h .values ∙ sym values-are;
   }
 
-slice-aggregate-row-counts : tie.Need-slice-aggregate-row-counts
-slice-aggregate-row-counts c = search needs
+-- where the rows' counts are written
+module _ (c : tie.After-row-counts) where
+  abbrev start : tie.Start
+  start = c .before .before .before .before .before .before .before .before .before .before
 
-row-counts-requires : tie.Need-row-counts-requires
-row-counts-requires c κs = search needs
+  abbrev counts : List ℕ
+  counts = c .row-counts .last .1 .1 .0
 
-array-share-prefix-counts : tie.Need-array-share-prefix-counts
-array-share-prefix-counts c = search needs
-
-slice-aggregate-solve : tie.Need-slice-aggregate-solve
-slice-aggregate-solve c = sym (length-take-le _ (c .before .before .row-counts .last .1 .1 .0) (omega (arith, c .before .before .before .before .before .before .before .before .before .before .before .before .pre .0 .counts .most-rows, c .before .before .row-counts .kept)))
+  size : length (take (length (ks start)) counts) ≡ length (ks start)
+  size = length-take-le _ counts (omega (arith, start .pre .0 .counts .most-rows, c .row-counts .kept))
 
 solve-requires : tie.Need-solve-requires
-solve-requires c κs = let p = c .before .before .before .before .before .before .before .before .before .before .before .before .before .before .pre in
-    let size = length-take-le (length (c .before .before .before .before .before .before .before .before .before .before .before .before .before .before .args .lengths .now)) (c .before .before .before .before .row-counts .last .1 .1 .0) (omega (arith, p .0 .counts .most-rows, c .before .before .before .before .row-counts .kept)) in (
-      (p .0 .counts .degree, p .1 .0 .1, points (c .before .before .before .before .before .before .before .before .before .before .before .before .before .before), values (c .before .before .before .before .before .before .before .before .before .before .before .before .before .before)),
+solve-requires c κs =
+    let o = c .before .before .before .before in
+    let s = start o in
+    let p = s .pre in
+    let sized = size o in (
+      (p .0 .counts .degree, p .1 .0 .1, points s, values s),
       (
-        (omega (arith, few (c .before .before .before .before .before .before .before .before .before .before .before .before .before .before)), omega (arith, p .0 .counts .most-rows), omega (arith, p .0 .counts .most-rows, p .1 .1 .1 .0)),
-        (rowsOf (code (c .before .before .before .before .before .before .before .before .before .before .before .before .before .before)) (c .before .before .before .before .before .before .before .before .before .before .before .before .before .before .args .received .now), are (c .before .before .before .before .before .before .before .before .before .before .before .before .before .before) (c .before .before .before .before .row-counts .ensures)),
+        (omega (arith, few s), omega (arith, p .0 .counts .most-rows), omega (arith, p .0 .counts .most-rows, p .1 .1 .1 .0)),
+        (rowsOf (code s) (y s), are s (o .row-counts .ensures)),
       ),
     )
 
 decide-requires : tie.Need-decide-requires
-decide-requires c κs = let p = c .before .before .before .before .before .before .before .before .before .before .before .before .before .before .before .before .before .before .before .before .before .pre in
-    let y = c .before .before .before .before .before .before .before .before .before .before .before .before .before .before .before .before .before .before .before .before .before .args .received .now in
-    let held = c .before .before .before .before .before .before .solve .ensures (rowsOf (code (c .before .before .before .before .before .before .before .before .before .before .before .before .before .before .before .before .before .before .before .before .before)) y) (are (c .before .before .before .before .before .before .before .before .before .before .before .before .before .before .before .before .before .before .before .before .before) (c .before .before .before .before .before .before .before .before .before .before .before .row-counts .ensures)) in
-    let lines = subst₂ (λ (C s : ℕ). HoldsLines (c .before .before .before .before .before .before .before .before .before .before .before .before .before .before .before .before .before .before .before .before .before .args .degree) C (suc s) C (c .before .before .before .before .before .before .solve .last .1 .1 .1 .1 .1 .0) (c .before .before .before .before .before .before .solve .last .1 .1 .1 .1 .1 .1 .0) (linesOf (code (c .before .before .before .before .before .before .before .before .before .before .before .before .before .before .before .before .before .before .before .before .before)) y)) (count (c .before .before .before .before .before .before .before .before .before .before .before .before .before .before .before .before .before .before .before .before .before)) (rows-count (code (c .before .before .before .before .before .before .before .before .before .before .before .before .before .before .before .before .before .before .before .before .before)) y) held in
-    (p .0, (p .1 .0, ((few (c .before .before .before .before .before .before .before .before .before .before .before .before .before .before .before .before .before .before .before .before .before), omega (arith, p .1 .1 .1 .0, c .before .before .before .before .before .before .solve .kept), p .1 .1 .1 .1, p .1 .1 .1 .2), lines)))
-
-same-length : tie.Need-same-length
-same-length c = search needs
-
-same-length-2 : tie.Need-same-length-2
-same-length-2 c = search needs
-
-same-length-3 : tie.Need-same-length-3
-same-length-3 c = search needs
-
-returns : tie.Need-returns
-returns c = search needs
+decide-requires c κs =
+    let o = c .before .before .before .before .before .before .before .before .before .before .before in
+    let s = start o in
+    let p = s .pre in
+    let solve = c .before .before .before .before .before .before .solve in
+    let held = solve .ensures (rowsOf (code s) (y s)) (are s (o .row-counts .ensures)) in
+    let lines = subst₂ (λ (C n : ℕ). HoldsLines (d s) C (suc n) C (solve .last .1 .1 .1 .1 .1 .0) (solve .last .1 .1 .1 .1 .1 .1 .0)
+    (linesOf (code s) (y s))) (count s) (rows-count (code s) (y s)) held in
+    (p .0, (p .1 .0, ((few s, omega (arith, p .1 .1 .1 .0, solve .kept), p .1 .1 .1 .1, p .1 .1 .1 .2), lines)))
 
 pub locate-spec : {M : Type 1} → statement M
-locate-spec =
-    tie.close
-    (tie.spec
-    slice-aggregate-row-counts
-    row-counts-requires
-    array-share-prefix-counts
-    slice-aggregate-solve
+locate-spec = tie.close (tie.spec
+    (λ c. search needs)
+    (λ c κs. search needs)
+    (λ c. search needs)
+    (λ c. sym (size (c .before .before)))
     solve-requires
     decide-requires
-    same-length
-    same-length-2
-    same-length-3
-    returns)
+    (λ c. search needs)
+    (λ c. search needs)
+    (λ c. search needs)
+    (λ c. search needs))

@@ -5,18 +5,6 @@ use borrow.Author.Needs.{needs}
 use Rattle.solver.proofs.first.first_line.Statement.{statement}
 use Rattle.solver.proofs.first.first_line.Tie as tie
 
-clear-requires : tie.Need-clear-requires
-clear-requires c κs = search needs
-
-store-requires : tie.Need-store-requires
-store-requires c κs = search needs
-
-ones-requires : tie.Need-ones-requires
-ones-requires c κs = search needs
-
-same-length : tie.Need-same-length
-same-length c = search needs
-
 returns : tie.Need-returns
 returns c =
     let written = c .before .before in
@@ -27,4 +15,4 @@ returns c =
 
 pub first-line-spec : {M : Type 1} → statement M
 first-line-spec =
-    tie.close (tie.spec clear-requires store-requires ones-requires same-length returns)
+    tie.close (tie.spec (λ c κs. search needs) (λ c κs. search needs) (λ c κs. search needs) (λ c. search needs) returns)

@@ -18,17 +18,8 @@ abbrev μ-loop : tie.MeasureT-loop
 loop-holds : tie.Need-loop-holds Inv-loop μ-loop
 loop-holds c = (search needs, sym (patch-none _ _ _))
 
-add-space : tie.Need-add-space Inv-loop μ-loop
-add-space c = search needs
-
 slice-write-space : tie.Need-slice-write-space Inv-loop μ-loop
 slice-write-space c = rw (c .before .loop .inv .1) (rw length-patch (omega (arith, c .loop-test .taken, c .before .before .pre)))
-
-add-i : tie.Need-add-i Inv-loop μ-loop
-add-i c = search needs
-
-loop-less : tie.Need-loop-less Inv-loop μ-loop
-loop-less c = search needs
 
 loop-again : tie.Need-loop-again Inv-loop μ-loop
 loop-again c = (omega (arith, c .loop-test .taken), patch-step _ _ _ _ (c .before .loop .inv .1) refl)
@@ -48,10 +39,10 @@ ones-spec =
     Inv-loop
     μ-loop
     loop-holds
-    add-space
+    (λ c. search needs)
     slice-write-space
-    add-i
-    loop-less
+    (λ c. search needs)
+    (λ c. search needs)
     loop-again
     same-length
     returns)

@@ -5,24 +5,6 @@ use borrow.Author.Needs.{needs}
 use Rattle.solver.proofs.first.row_line.Statement.{statement}
 use Rattle.solver.proofs.first.row_line.Tie as tie
 
-mul-clear : tie.Need-mul-clear
-mul-clear c = search needs
-
-clear-requires : tie.Need-clear-requires
-clear-requires c κs = search needs
-
-mul-ones : tie.Need-mul-ones
-mul-ones c = search needs
-
-add-ones : tie.Need-add-ones
-add-ones c = search needs
-
-ones-requires : tie.Need-ones-requires
-ones-requires c κs = search needs
-
-same-length : tie.Need-same-length
-same-length c = search needs
-
 returns : tie.Need-returns
 returns c =
     let written = c .before .before in
@@ -33,4 +15,11 @@ returns c =
 pub row-line-spec : {M : Type 1} → statement M
 row-line-spec =
     tie.close
-    (tie.spec mul-clear clear-requires mul-ones add-ones ones-requires same-length returns)
+    (tie.spec
+    (λ c. search needs)
+    (λ c κs. search needs)
+    (λ c. search needs)
+    (λ c. search needs)
+    (λ c κs. search needs)
+    (λ c. search needs)
+    returns)

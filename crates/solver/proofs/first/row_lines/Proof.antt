@@ -1,7 +1,8 @@
 -- `solver::first::row_lines` writes the lines of the rows, one after the other.
 -- Assumes nothing.
 use mathlib.Core.Path.{_≡_, refl}
-use Prim.Native.Nat.{_+_, _-_, _≤_}
+use mathlib.Core.List.{List}
+use Prim.Native.Nat.{ℕ, _+_, _-_, _≤_, _<_}
 use native.Mathlib.Omega.{arith}
 use lib.ListN.{length, take, getD}
 use Rattle.solver.specs.Working.Start.{allCounts, rowLine}
@@ -13,7 +14,8 @@ use Rattle.solver.proofs.first.row_lines.Statement.{statement}
 use Rattle.solver.proofs.first.row_lines.Tie as tie
 
 abbrev Inv-loop : tie.InvT-loop
-Inv-loop counts space₀ j₀ at₀ space j at = (j ≤ length counts) × (at ≡ allCounts (take j counts)) × Begun (j + 1) (rowLine counts) space₀ space
+Inv-loop counts space₀ j₀ at₀ space j at =
+    (j ≤ length counts) × (at ≡ allCounts (take j counts)) × Begun (j + 1) (rowLine counts) space₀ space
 
 abbrev μ-loop : tie.MeasureT-loop
 μ-loop counts space₀ j₀ at₀ space j at = length counts - j
@@ -21,53 +23,37 @@ abbrev μ-loop : tie.MeasureT-loop
 loop-holds : tie.Need-loop-holds Inv-loop μ-loop
 loop-holds c = (search needs, refl, rows-none _ _)
 
-add-row-line : tie.Need-add-row-line Inv-loop μ-loop
-add-row-line c = search needs
+-- a turn's row
+module _ (c : tie.In-loop Inv-loop μ-loop) where
+  abbrev start : tie.Start Inv-loop μ-loop
+  start = c .before .before .before .before
 
-mul-row-line : tie.Need-mul-row-line Inv-loop μ-loop
-mul-row-line c = search needs
+  abbrev counts : List ℕ
+  counts = start .args .counts .now
 
-shared-slice-read-row-line : tie.Need-shared-slice-read-row-line Inv-loop μ-loop
-shared-slice-read-row-line c = search needs
+  abbrev j : ℕ
+  j = c .before .loop .j
+
+  below : j < length counts
+  below = c .loop-test .taken
+
+  within : c .before .loop .at + getD counts j 0 ≤ 768
+  within = omega (arith, c .before .loop .inv .1, all-counts-within counts j below, start .pre)
 
 row-line-requires : tie.Need-row-line-requires Inv-loop μ-loop
 row-line-requires c κs =
-    let turn = c .before .before .before in
-    let start = turn .before .before .before in
-    let below = c .before .before .loop-test .taken in (
-      rw (turn .loop .inv .1) (omega (arith, all-counts-within (start .args .counts .now) (turn .loop .j) below, start .pre)),
-      omega (arith, below, start .pre, turn .loop .inv .2 .begun .long),
-    )
-
-mul-at : tie.Need-mul-at Inv-loop μ-loop
-mul-at c = search needs
-
-shared-slice-read-at : tie.Need-shared-slice-read-at Inv-loop μ-loop
-shared-slice-read-at c = search needs
-
-add-at : tie.Need-add-at Inv-loop μ-loop
-add-at c =
-    let turn = c .before .before .before .before .before .before .before in
-    let start = turn .before .before .before in
-    let counts = start .args .counts .now in
-    let within : turn .loop .at + getD counts (turn .loop .j) 0 ≤ 768 =
-    rw (turn .loop .inv .1) (omega (arith, all-counts-within counts (turn .loop .j) (c .before .before .before .before .before .before .loop-test .taken), start .pre)) in
-    omega arith
-
-add-j : tie.Need-add-j Inv-loop μ-loop
-add-j c = search needs
-
-loop-less : tie.Need-loop-less Inv-loop μ-loop
-loop-less c = search needs
+    let turn = c .before .before in
+    (within turn, omega (arith, below turn, start turn .pre, turn .before .loop .inv .2 .begun .long))
 
 loop-again : tie.Need-loop-again Inv-loop μ-loop
 loop-again c =
-    let inv = c .before .before .before .before .before .before .before .loop .inv in
-    let below = c .before .before .before .before .before .before .loop-test .taken in
-    (omega (arith, below), rw (inv .1) (all-counts-next _ _ below), rows-more _ _ _ _ (inv .1) (inv .2) (c .before .before .before .row-line .ensures))
-
-same-length : tie.Need-same-length Inv-loop μ-loop
-same-length c = search needs
+    let written = c .before .before .before in
+    let turn = written .before .before .before in
+    let inv = turn .before .loop .inv in (
+      omega (arith, below turn),
+      rw (inv .1) (all-counts-next _ _ (below turn)),
+      rows-more _ _ _ _ (inv .1) (inv .2) (written .row-line .ensures),
+    )
 
 returns : tie.Need-returns Inv-loop μ-loop
 returns c =
@@ -81,15 +67,15 @@ row-lines-spec =
     Inv-loop
     μ-loop
     loop-holds
-    add-row-line
-    mul-row-line
-    shared-slice-read-row-line
+    (λ c. search needs)
+    (λ c. search needs)
+    (λ c. search needs)
     row-line-requires
-    mul-at
-    shared-slice-read-at
-    add-at
-    add-j
-    loop-less
+    (λ c. search needs)
+    (λ c. search needs)
+    (λ c. omega (arith, within (c .before .before .before .before .before .before)))
+    (λ c. search needs)
+    (λ c. search needs)
     loop-again
-    same-length
+    (λ c. search needs)
     returns)

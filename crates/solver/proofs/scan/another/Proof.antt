@@ -10,39 +10,6 @@ use borrow.Author.Needs.{needs}
 use Rattle.solver.proofs.scan.another.Statement.{statement}
 use Rattle.solver.proofs.scan.another.Tie as tie
 
-element-copy-out-other : tie.Need-element-copy-out-other
-element-copy-out-other c = search needs
-
-other-requires : tie.Need-other-requires
-other-requires c κs = search needs
-
-element-copy-out-other-2 : tie.Need-element-copy-out-other-2
-element-copy-out-other-2 c = search needs
-
-other-requires-2 : tie.Need-other-requires-2
-other-requires-2 c κs = search needs
-
-element-copy-out-other-3 : tie.Need-element-copy-out-other-3
-element-copy-out-other-3 c = search needs
-
-other-requires-3 : tie.Need-other-requires-3
-other-requires-3 c κs = search needs
-
-element-copy-out-other-4 : tie.Need-element-copy-out-other-4
-element-copy-out-other-4 c = search needs
-
-other-requires-4 : tie.Need-other-requires-4
-other-requires-4 c κs = search needs
-
-element-copy-out-other-5 : tie.Need-element-copy-out-other-5
-element-copy-out-other-5 c = search needs
-
-other-requires-5 : tie.Need-other-requires-5
-other-requires-5 c κs = search needs
-
-pivot-requires : tie.Need-pivot-requires
-pivot-requires c κs = search needs
-
 returns : tie.Need-returns
 returns c =
     let m5 = c .before .before in
@@ -55,22 +22,23 @@ returns c =
     let marked : (j : ℕ) → j < 5 → Marks (getD (start .args .leads .now) j 0) (start .args .m) (getD marks j 0) =
     five _ (m1 .other .ensures) (m2 .other2 .ensures) (m3 .other3 .ensures) (m4 .other4 .ensures) (m5 .other5 .ensures) in (
       c .pivot .ensures .0,
-      λ es size led. another-scan marks _ _ _ (c .pivot .ensures .1) es size led (start .args .m) (λ j lt. marked j (omega (arith, start .pre))),
+      λ es size led. another-scan marks _ _ _ (c .pivot .ensures .1) es size led (start .args .m)
+          (λ j lt. marked j (omega (arith, start .pre))),
     )
 
 pub another-spec : {M : Type 1} → statement M
 another-spec =
     tie.close
     (tie.spec
-    element-copy-out-other
-    other-requires
-    element-copy-out-other-2
-    other-requires-2
-    element-copy-out-other-3
-    other-requires-3
-    element-copy-out-other-4
-    other-requires-4
-    element-copy-out-other-5
-    other-requires-5
-    pivot-requires
+    (λ c. search needs)
+    (λ c κs. search needs)
+    (λ c. search needs)
+    (λ c κs. search needs)
+    (λ c. search needs)
+    (λ c κs. search needs)
+    (λ c. search needs)
+    (λ c κs. search needs)
+    (λ c. search needs)
+    (λ c κs. search needs)
+    (λ c κs. search needs)
     returns)

@@ -8,9 +8,6 @@ use borrow.Author.Needs.{needs}
 use Rattle.solver.proofs.scan.better.Statement.{statement}
 use Rattle.solver.proofs.scan.better.Tie as tie
 
-element-copy-out-if1 : tie.Need-element-copy-out-if1
-element-copy-out-if1 c = search needs
-
 returns : tie.Need-returns
 returns c = (search needs, sym (passed _ _ _ _ _ (c .if1 .taken)))
 
@@ -20,42 +17,40 @@ returns-2 c =
     let none-yet : start .args .lines ≤ start .args .best = omega (arith, c .if2 .taken) in
     (search needs, found-some _ _ (start .pre .2) ∙ rw (found-none _ _ none-yet) (sym (first _ _ _ _ (c .before .if1 .left))))
 
-mul-if3 : tie.Need-mul-if3
-mul-if3 c = search needs
+-- line j has no mark, and a line was found before
+module _ (c : tie.After-if33) where
+  abbrev unmarked : tie.Else1
+  unmarked = c .before .before .before
 
-element-copy-out-if3 : tie.Need-element-copy-out-if3
-element-copy-out-if3 c = search needs
+  abbrev start : tie.Start
+  start = unmarked .before .before
 
-mul-if3-2 : tie.Need-mul-if3-2
-mul-if3-2 c = search needs
-
-element-copy-out-if3-2 : tie.Need-element-copy-out-if3-2
-element-copy-out-if3-2 c = search needs
+  some-yet : start .args .best < start .args .lines
+  some-yet = omega (arith, c .before .before .if2 .left)
 
 returns-3 : tie.Need-returns-3
 returns-3 c =
-    let start = c .before .before .before .before .before .before in
-    let marked = c .before .before .before .before .if1 .left in
-    let some-yet : start .args .best < start .args .lines = omega (arith, c .before .before .before .if2 .left) in
-    (search needs, found-some _ _ (start .pre .2) ∙ rw (found-some _ _ some-yet) (sym (lower _ _ _ _ _ marked (c .if3 .taken))))
+    let here = c .before in (
+      search needs,
+      found-some _ _ (start here .pre .2)
+          ∙ rw (found-some _ _ (some-yet here)) (sym (lower _ _ _ _ _ (unmarked here .if1 .left) (c .if3 .taken))),
+    )
 
 returns-4 : tie.Need-returns-4
 returns-4 c =
-    let start = c .before .before .before .before .before .before in
-    let marked = c .before .before .before .before .if1 .left in
-    let some-yet : start .args .best < start .args .lines = omega (arith, c .before .before .before .if2 .left) in
-    (search needs, rw (found-some _ _ some-yet) (sym (kept _ _ _ _ _ marked (c .if3 .left))))
+    let here = c .before in
+    (search needs, rw (found-some _ _ (some-yet here)) (sym (kept _ _ _ _ _ (unmarked here .if1 .left) (c .if3 .left))))
 
 pub better-spec : {M : Type 1} → statement M
 better-spec =
     tie.close
     (tie.spec
-    element-copy-out-if1
+    (λ c. search needs)
     returns
     returns-2
-    mul-if3
-    element-copy-out-if3
-    mul-if3-2
-    element-copy-out-if3-2
+    (λ c. search needs)
+    (λ c. search needs)
+    (λ c. search needs)
+    (λ c. search needs)
     returns-3
     returns-4)

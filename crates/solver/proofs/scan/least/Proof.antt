@@ -6,9 +6,6 @@ use borrow.Author.Needs.{needs}
 use Rattle.solver.proofs.scan.least.Statement.{statement}
 use Rattle.solver.proofs.scan.least.Tie as tie
 
-pivot-requires : tie.Need-pivot-requires
-pivot-requires c κs = search needs
-
 returns : tie.Need-returns
 returns c = (
   c .pivot .ensures .0,
@@ -16,4 +13,4 @@ returns c = (
 )
 
 pub least-spec : {M : Type 1} → statement M
-least-spec = tie.close (tie.spec pivot-requires returns)
+least-spec = tie.close (tie.spec (λ c κs. search needs) returns)

@@ -18,15 +18,6 @@ abbrev μ-loop : tie.MeasureT-loop
 loop-holds : tie.Need-loop-holds Inv-loop μ-loop
 loop-holds c = (search needs, search needs, rest-all _ _ _)
 
-better-requires : tie.Need-better-requires Inv-loop μ-loop
-better-requires c κs = search needs
-
-add-j : tie.Need-add-j Inv-loop μ-loop
-add-j c = search needs
-
-loop-less : tie.Need-loop-less Inv-loop μ-loop
-loop-less c = search needs
-
 loop-again : tie.Need-loop-again Inv-loop μ-loop
 loop-again c =
     let below = c .before .loop-test .taken in
@@ -38,4 +29,4 @@ returns c = (c .before .loop .inv .1, sym (rest-none _ _ _ _ _ (omega arith)) �
 pub pivot-spec : {M : Type 1} → statement M
 pivot-spec =
     tie.close
-    (tie.spec Inv-loop μ-loop loop-holds better-requires add-j loop-less loop-again returns)
+    (tie.spec Inv-loop μ-loop loop-holds (λ c κs. search needs) (λ c. search needs) (λ c. search needs) loop-again returns)

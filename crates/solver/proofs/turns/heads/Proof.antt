@@ -19,24 +19,6 @@ abbrev μ-loop : tie.MeasureT-loop
 loop-holds : tie.Need-loop-holds Inv-loop μ-loop
 loop-holds c = (search needs, sym (patch-none _ _ _))
 
-mul-ds : tie.Need-mul-ds Inv-loop μ-loop
-mul-ds c = search needs
-
-add-ds : tie.Need-add-ds Inv-loop μ-loop
-add-ds c = search needs
-
-shared-slice-read-ds : tie.Need-shared-slice-read-ds Inv-loop μ-loop
-shared-slice-read-ds c = search needs
-
-element-write-ds : tie.Need-element-write-ds Inv-loop μ-loop
-element-write-ds c = search needs
-
-add-j : tie.Need-add-j Inv-loop μ-loop
-add-j c = search needs
-
-loop-less : tie.Need-loop-less Inv-loop μ-loop
-loop-less c = search needs
-
 loop-again : tie.Need-loop-again Inv-loop μ-loop
 loop-again c = (omega (arith, c .before .loop-test .taken), patch-front _ _ _ (c .before .before .loop .inv .1) refl)
 
@@ -52,11 +34,11 @@ heads-spec =
     Inv-loop
     μ-loop
     loop-holds
-    mul-ds
-    add-ds
-    shared-slice-read-ds
-    element-write-ds
-    add-j
-    loop-less
+    (λ c. search needs)
+    (λ c. search needs)
+    (λ c. search needs)
+    (λ c. search needs)
+    (λ c. search needs)
+    (λ c. search needs)
     loop-again
     returns)

@@ -13,32 +13,17 @@ use Rattle.solver.proofs.turns.mix_line.Tie as tie
 returns : tie.Need-returns
 returns c = only-none _ _ _ (mixed-pivot _ _ _ _ _ _ _ (c .if1 .taken))
 
-element-copy-out-if2 : tie.Need-element-copy-out-if2
-element-copy-out-if2 c = search needs
-
 returns-2 : tie.Need-returns-2
 returns-2 c = only-none _ _ _ (mixed-zero _ _ _ _ _ _ _ (c .if2 .taken))
 
-element-copy-out-add-times : tie.Need-element-copy-out-add-times
-element-copy-out-add-times c = search needs
-
 abbrev start : tie.Else2 → tie.Start
 start c = c .before .before .before .before .before
-
-mul-add-times : tie.Need-mul-add-times
-mul-add-times c = search needs
-
-add-add-times : tie.Need-add-add-times
-add-add-times c = search needs
 
 add-times-requires : tie.Need-add-times-requires
 add-times-requires c κs =
     let s = start (c .before .before) in
     let (field-of, lent, factors) = s .pre .0 in
     ((field-of, lent, rw (factors (s .args .j) (s .pre .1 .0 .1)) (field _ field-of .times-in _ _)), omega (arith, s .pre .1 .1))
-
-same-length : tie.Need-same-length
-same-length c = search needs
 
 returns-3 : tie.Need-returns-3
 returns-3 c =
@@ -56,11 +41,11 @@ mix-line-spec =
     tie.close
     (tie.spec
     returns
-    element-copy-out-if2
+    (λ c. search needs)
     returns-2
-    element-copy-out-add-times
-    mul-add-times
-    add-add-times
+    (λ c. search needs)
+    (λ c. search needs)
+    (λ c. search needs)
     add-times-requires
-    same-length
+    (λ c. search needs)
     returns-3)

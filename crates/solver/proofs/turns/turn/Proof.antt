@@ -21,18 +21,9 @@ mixed c = c .before .before .before .before .before .before .before
 
 mix-others-requires : tie.Need-mix-others-requires
 mix-others-requires c κs =
-    let pre = start (c .before .before) .pre in (
-      (pre .0 .0, pre .0 .1),
-      (
-        (pre .1 .0 .3, pre .1 .0 .4, pre .1 .1 .0, pre .1 .1 .1),
-        (
-          omega
-              (arith, pre .1 .0),
-          pre .1 .0 .5,
-          pre .1 .0 .6,
-        ),
-      ),
-    )
+    let ((degree, table, points, padded), ((here, few, narrow, line, lines, space, room), (values, nonzero, raisable))) =
+    start (c .before .before) .pre in
+    ((degree, table), ((line, lines, values, nonzero), (omega (arith, here, few, narrow), space, room)))
 
 raise-requires : tie.Need-raise-requires
 raise-requires c κs =
