@@ -1,8 +1,8 @@
 /* Grenhyrna: marks struck on bar ends, encoded, read and decoded. C99 and C++.
  *
  * Every function is proved to do what is said here for every input: it ends, it reads and writes nothing but the buffers lent, and
- * it needs no set-up. Link libfirmware.a (x86-64); of its host it needs memcpy and memset alone, and less than 28 KB of stack, for a
- * tray less than 31 KB (read off the compiled code, and not proved).
+ * it needs no set-up. Link libfirmware.a (x86-64); of its host it needs memcpy and memset alone, and less than 26 KB of stack, for a
+ * tray less than 30 KB (read off the compiled code, and not proved).
  *
  * A code is a field GF(2^degree), columns distinct points (one a column), as many factors (one a column, none of them zero), and
  * rows message lengths k (one a row), each at least 1 and below the number of columns, so that every row has check symbols. K is the

@@ -6,7 +6,7 @@
 --   half-below         half of a number has a bit less
 --   low-zero, low-step no bit; one bit more; low-bit, so in a loop from the highest bit on
 --   low-times          the product over as many bits as symbols have, or more
---   half-size          half of the field
+--   half-size          half of the field; size-half, the field is twice its half
 --   timesX-below, bit-below    x times a symbol is one, and a bit times a symbol
 --   doubled-small, doubled-large    x times a symbol, in a byte, by whether its top bit is set
 -- Assumes nothing.
@@ -81,10 +81,11 @@ unfolding times
 low-times d n a b h ha hb = low-more d d n a b h ha ∙ ap (timesLow d d a) (sym (mod-eq-of-lt hb))
 
 -- half of the field
+pub size-half : (d : ℕ) → 0 < d → 2 ^ d ≡ 2 ^ (d - 1) * 2
+size-half d pos = ap (λ (x : ℕ). 2 ^ x) (let e : d ≡ suc (d - 1) = omega arith in e) ∙ pow-suc 2 (d - 1)
+
 pub half-size : (d : ℕ) → 0 < d → 2 ^ d / 2 ≡ 2 ^ (d - 1)
-half-size d pos =
-    ap (λ (x : ℕ). 2 ^ x / 2) (let e : d ≡ suc (d - 1) = omega arith in e)
-    ∙ ap (λ (x : ℕ). x / 2) (pow-suc 2 (d - 1)) ∙ mul-div-cancel (2 ^ (d - 1)) (let two : 0 < 2 = omega arith in two)
+half-size d pos = ap (λ (x : ℕ). x / 2) (size-half d pos) ∙ mul-div-cancel (2 ^ (d - 1)) (let two : 0 < 2 = omega arith in two)
 
 module _ (d : ℕ) (𝓣 : Tested d) where
   pub timesX-below : (v : ℕ) → v < 2 ^ d → timesX d v < 2 ^ d

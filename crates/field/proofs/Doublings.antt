@@ -1,23 +1,22 @@
 -- The laws of a constant factor's doublings.
 --
 --   doublings-at       what stands at a place
---   doublings-zero     nothing doubled is nothing
 --   doublings-short    doublings end with the degree
 --   first-doubling, next-doubling    the symbol itself; x times the one before
 --   eight-doublings    eight numbers that are the doublings
 -- Assumes nothing.
-use mathlib.Core.Path.{_≡_, refl, sym, ap, ap₂, _∙_}
+use mathlib.Core.Path.{_≡_, refl, sym, ap, _∙_}
 use mathlib.Core.List.{[], _∷_}
 use Prim.Native.Nat.{ℕ, zero, suc, _+_, _^_, _≤_, _<_}
 use native.Mathlib.Nat.{add-zero, add-suc, suc-add}
 use native.Mathlib.Decide.{decLt}
 use native.Mathlib.Omega.{arith}
-use lib.ListN.{length, getD, replicate, List·getD-eq-default}
+use lib.ListN.{length, getD, List·getD-eq-default}
 use lib.Pow.{pow-lt}
 use Rattle.field.specs.Symbols.{timesX, times}
 use Rattle.field.specs.Working.Tables.{power}
 use Rattle.field.specs.Working.Doublings.{doublingsFrom}
-use Rattle.field.proofs.Products.{Tested, times-comm, times-assoc, times-below, one-times, x-times, zero-times, times-high}
+use Rattle.field.proofs.Products.{Tested, times-assoc, times-below, one-times, x-times, times-high}
 use Rattle.field.proofs.Powers.{Generated, power-small}
 
 pub doublings-at : (d c i n k : ℕ) → k < n → getD (doublingsFrom d c i n) k 0 ≡ times d (2 ^ (i + k)) c
@@ -32,11 +31,6 @@ unfolding doublingsFrom
 length-doublings d c i zero = refl
 length-doublings d c i (suc n) = ap suc (length-doublings d c (suc i) n)
 
-pub doublings-zero : (d : ℕ) → Tested d → (i n : ℕ) → doublingsFrom d 0 i n ≡ replicate n 0
-unfolding doublingsFrom
-doublings-zero d 𝓣 i zero = refl
-doublings-zero d 𝓣 i (suc n) = ap₂ _∷_ (times-comm d 𝓣 (2 ^ i) 0 ∙ zero-times d 𝓣 (2 ^ i)) (doublings-zero d 𝓣 (suc i) n)
-
 module _ (d : ℕ) (𝓖 : Generated d) (c : ℕ) where
   pub first-doubling : c < 2 ^ d → c ≡ times d (2 ^ 0) c
   first-doubling h = sym (one-times d (𝓖 .tested) c h)
@@ -47,7 +41,7 @@ module _ (d : ℕ) (𝓖 : Generated d) (c : ℕ) where
       let 𝓣 = 𝓖 .tested in
       let small : 2 ^ i < 2 ^ d = pow-lt (let h′ : i < d = omega arith in h′) in
       let up : times d 2 (2 ^ i) ≡ 2 ^ suc i =
-      sym (x-times d 𝓣 (2 ^ i) small) ∙ ap (timesX d) (sym (power-small d 𝓖 i (omega arith) .raised)) ∙ power-small d 𝓖 (suc i) h .raised in
+      sym (x-times d 𝓣 (2 ^ i) small) ∙ ap (timesX d) (sym (power-small d 𝓖 i (omega arith))) ∙ power-small d 𝓖 (suc i) h in
       ap (timesX d) e ∙ x-times d 𝓣 (times d (2 ^ i) c) (times-below d 𝓣 (2 ^ i) c) ∙ sym (times-assoc d 𝓣 2 (2 ^ i) c)
       ∙ ap (λ (x : ℕ). times d x c) up
 

@@ -16,36 +16,37 @@ use lib.Pow.{pow-pos}
 use Rattle.refusal.specs.Refusal.{badDegree}
 use Rattle.refusal.proofs.Laws.{degrees}
 use Rattle.field.specs.Symbols.{plus, modulus, timesX, timesLow, times}
-use Rattle.field.specs.Working.Tables.{power, powers, placeOf}
+use Rattle.field.specs.Working.Bits.{halved}
+use Rattle.field.specs.Working.Tables.{power}
 use Rattle.field.specs.Arithmetic.{gf}
 use Rattle.field.proofs.Laws.{Field}
 use Rattle.field.proofs.Sums.{plus-comm, plus-assoc, zero-plus, plus-self, plus-below}
 use Rattle.field.proofs.Products.{Tested, times-plus, times-comm, times-assoc, times-below, one-times}
-use Rattle.field.proofs.Powers.{Generated, over-times, over-below}
+use Rattle.field.proofs.Powers.{powers, placeOf, Generated, over-times, over-below}
 
 tested-2 : Tested 2
 unfolding timesX timesLow times plus modulus
 tested-2 = record { commute = tt; associate = tt; close = tt; unit = tt; move = tt }
 
 generated-2 : Generated 2
-unfolding timesX timesLow times plus modulus power powers placeOf
-generated-2 = record { tested = tested-2; two = tt; round = tt; reach = tt; start = tt; room = tt; closing = tt }
+unfolding timesX timesLow times plus modulus power powers placeOf halved
+generated-2 = record { tested = tested-2; two = tt; round = tt; reach = tt; start = tt; halve = tt }
 
 tested-4 : Tested 4
 unfolding timesX timesLow times plus modulus
 tested-4 = record { commute = tt; associate = tt; close = tt; unit = tt; move = tt }
 
 generated-4 : Generated 4
-unfolding timesX timesLow times plus modulus power powers placeOf
-generated-4 = record { tested = tested-4; two = tt; round = tt; reach = tt; start = tt; room = tt; closing = tt }
+unfolding timesX timesLow times plus modulus power powers placeOf halved
+generated-4 = record { tested = tested-4; two = tt; round = tt; reach = tt; start = tt; halve = tt }
 
 tested-8 : Tested 8
 unfolding timesX timesLow times plus modulus
 tested-8 = record { commute = tt; associate = tt; close = tt; unit = tt; move = tt }
 
 generated-8 : Generated 8
-unfolding timesX timesLow times plus modulus power powers placeOf
-generated-8 = record { tested = tested-8; two = tt; round = tt; reach = tt; start = tt; room = tt; closing = tt }
+unfolding timesX timesLow times plus modulus power powers placeOf halved
+generated-8 = record { tested = tested-8; two = tt; round = tt; reach = tt; start = tt; halve = tt }
 
 pub generated : (d : ℕ) → badDegree d ≡ false → Generated d
 generated d h = go (degrees d h)

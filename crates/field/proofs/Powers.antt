@@ -1,8 +1,10 @@
--- Every nonzero symbol is a power of x, and the powers come round after 2 ^ d − 1: from this the inverses, and the tables.
+-- Every nonzero symbol is a power of x, and the powers come round after 2 ^ d − 1: from this the inverses.
 --
+--   powers d n c        c, x·c, x²·c, …, n of them
+--   placeOf b p         the place of b in the list p, its length where b is not in it
 --   Generated d         the tests of that, which antt computes
+--   halved-twice        a symbol's half is a symbol, and x times it is that symbol
 --   power-add           x^i · x^j = x^(i + j)
---   power-round         x^(i + 2 ^ d − 1) = x^i
 --   power-inverse       x^i and x^(2 ^ d − 1 − i) are inverse to each other
 --   exponent d b        the exponent of a nonzero symbol; power-exponent: x to it is b; exponent-below
 --   over-times          division undoes the product
@@ -10,19 +12,27 @@
 -- Assumes nothing.
 use mathlib.Core.Path.{_≡_, refl, sym, ap, _∙_, subst}
 use mathlib.Core.Bool.{Bool, true, false, cond, _&&_, _||_}
-use mathlib.Core.List.{List}
-use Prim.Native.Nat.{ℕ, zero, suc, _+_, _-_, _%_, _^_, _≤_, _<_}
-use native.Mathlib.Nat.{suc-add, add-suc, zero-add, add-zero, sub-add-cancel, le-of-lt, lt-of-lt-of-le, mod-eq-of-lt}
+use mathlib.Core.List.{List, [], _∷_}
+use Prim.Native.Nat.{ℕ, zero, suc, _+_, _-_, _^_, _≤_, _<_}
+use native.Mathlib.Nat.{suc-add, add-suc, zero-add, add-zero, sub-add-cancel, le-of-lt}
 use native.Mathlib.Omega.{arith}
 use native.Mathlib.Decide.{ℕ-discrete}
-use lib.Dec.{T, eqb, leb, ltb, eqb→eq, leb→le, ltb→lt}
+use lib.Dec.{T, eqb, ltb, eqb→eq, ltb→lt}
 use lib.ListN.{length, getD}
-use lib.Pow.{pow-pos, pow-mono}
+use lib.Pow.{pow-pos}
 use borrow.Author.Tests.{eq-eqb, ne-eqb}
-use Rattle.field.specs.Symbols.{plus, modulus, timesX, times, Quotient, quotientBelow, over}
-use Rattle.field.specs.Working.Tables.{power, powers, placeOf, Exponent}
-use Rattle.field.proofs.Sums.{plus-low}
-use Rattle.field.proofs.Products.{Tested, times-comm, times-assoc, times-below, one-times, x-times, allBelow, below}
+use Rattle.field.specs.Symbols.{timesX, times, Quotient, quotientBelow, over}
+use Rattle.field.specs.Working.Bits.{halved}
+use Rattle.field.specs.Working.Tables.{power}
+use Rattle.field.proofs.Products.{Tested, times-comm, times-assoc, times-below, one-times, x-times, allBelow, both, below}
+
+unfoldable pub powers : ℕ → ℕ → ℕ → List ℕ
+powers d zero c = []
+powers d (suc n) c = c ∷ powers d n (timesX d c)
+
+unfoldable pub placeOf : ℕ → List ℕ → ℕ
+placeOf b [] = zero
+placeOf b (a ∷ p) = cond (eqb a b) zero (suc (placeOf b p))
 
 -- b is 0 or stands at its place in p
 abbrev stands : List ℕ → ℕ → Bool
@@ -31,14 +41,17 @@ stands p b = eqb b 0 || eqb (getD p (placeOf b p) 0) b && ltb (placeOf b p) (len
 abbrev standAll : ℕ → List ℕ → Bool
 standAll n p = allBelow n (stands p)
 
+-- the half of a symbol is a symbol, and x times it is that symbol
+abbrev halves : ℕ → ℕ → Bool
+halves d v = ltb (halved d v) (2 ^ d) && eqb (timesX d (halved d v)) v
+
 pub record Generated (d : ℕ) : Type 0 where
   pub tested : Tested d
   pub two : T (ltb 1 (2 ^ d))
   pub round : T (eqb (power d (2 ^ d - 1)) 1)
   pub reach : T (standAll (2 ^ d) (powers d (2 ^ d - 1) 1))
   pub start : T (allBelow d λ i. eqb (power d i) (2 ^ i))
-  pub room : T (leb d (2 ^ d - 1))
-  pub closing : T (eqb (modulus d) (plus (power d d) (2 ^ d)))
+  pub halve : T (allBelow (2 ^ d) (halves d))
 
 -- ---- one round of powers as a list
 
@@ -102,21 +115,14 @@ module _ (d : ℕ) (𝓖 : Generated d) where
   power-below zero = one-below
   power-below (suc i) = rw (x-times d (𝓖 .tested) (power d i) (power-below i)) (times-below d (𝓖 .tested) 2 (power d i))
 
+  pub halved-twice : (v : ℕ) → v < 2 ^ d → (halved d v < 2 ^ d) × (timesX d (halved d v) ≡ v)
+  halved-twice v h =
+      let (small, back) = both (ltb (halved d v) (2 ^ d)) (eqb (timesX d (halved d v)) v) (below (2 ^ d) (halves d) (𝓖 .halve) v h) in
+      (ltb→lt (halved d v) (2 ^ d) small, eqb→eq (timesX d (halved d v)) v back)
+
   -- below x^d a power of x is a power of two
-  pub power-small : (i : ℕ) → i < d → Exponent d (2 ^ i) i
-  power-small i h = record {
-    within = omega (arith, leb→le d (2 ^ d - 1) (𝓖 .room));
-    raised = eqb→eq (power d i) (2 ^ i) (below d (λ j. eqb (power d j) (2 ^ j)) (𝓖 .start) i h);
-  }
-
-  pub degree-within : d ≤ 2 ^ d - 1
-  degree-within = leb→le d (2 ^ d - 1) (𝓖 .room)
-
-  -- x^d and what it is reduced to make up the polynomial; here in a byte
-  pub power-degree : d ≤ 8 → plus (power d d) (2 ^ d % 256) ≡ modulus d % 256
-  power-degree h =
-      ap (λ (x : ℕ). plus x (2 ^ d % 256)) (sym (mod-eq-of-lt (lt-of-lt-of-le (power-below d) (pow-mono h))))
-      ∙ sym (plus-low 8 (power d d) (2 ^ d)) ∙ ap (λ (x : ℕ). x % 256) (sym (eqb→eq (modulus d) (plus (power d d) (2 ^ d)) (𝓖 .closing)))
+  pub power-small : (i : ℕ) → i < d → power d i ≡ 2 ^ i
+  power-small i h = eqb→eq (power d i) (2 ^ i) (below d (λ j. eqb (power d j) (2 ^ j)) (𝓖 .start) i h)
 
   pub power-add : (i j : ℕ) → times d (power d i) (power d j) ≡ power d (i + j)
   unfolding power
@@ -133,11 +139,6 @@ module _ (d : ℕ) (𝓖 : Generated d) where
     undoes = power-add (2 ^ d - 1 - i) i ∙ ap (power d) (sub-add-cancel h) ∙ eqb→eq (power d (2 ^ d - 1)) 1 (𝓖 .round);
   }
 
-  pub power-round : (i : ℕ) → power d (i + (2 ^ d - 1)) ≡ power d i
-  power-round i =
-      sym (power-add i (2 ^ d - 1)) ∙ ap (times d (power d i)) (eqb→eq (power d (2 ^ d - 1)) 1 (𝓖 .round))
-      ∙ times-comm d (𝓖 .tested) (power d i) 1 ∙ one-times d (𝓖 .tested) (power d i) (power-below i)
-
   stands-there : (b : ℕ) → b < 2 ^ d → (b ≡ 0 → ⊥) → (getD (powers d (2 ^ d - 1) 1) (exponent d b) 0 ≡ b) × (exponent d b < 2 ^ d - 1)
   unfolding exponent
   stands-there b h n =
@@ -146,16 +147,12 @@ module _ (d : ℕ) (𝓖 : Generated d) where
       p : List ℕ
       p = powers d (2 ^ d - 1) 1
 
-      split : (s t : Bool) → T (s && t) → T s × T t
-      split true t k = (tt, k)
-      split false t k = absurd k
-
       go : T (stands p b) → eqb b 0 ≡ false → (getD p (placeOf b p) 0 ≡ b) × (placeOf b p < 2 ^ d - 1)
       go t e =
           let here : Bool = eqb (getD p (placeOf b p) 0) b in
           let inside : Bool = ltb (placeOf b p) (length p) in
-          let both : T here × T inside = split here inside (rw e at t) in
-          (eqb→eq (getD p (placeOf b p) 0) b (both .0), rw (length-powers d (2 ^ d - 1) 1) at (ltb→lt (placeOf b p) (length p) (both .1)))
+          let there : T here × T inside = both here inside (rw e at t) in
+          (eqb→eq (getD p (placeOf b p) 0) b (there .0), rw (length-powers d (2 ^ d - 1) 1) at (ltb→lt (placeOf b p) (length p) (there .1)))
 
   pub exponent-below : (b : ℕ) → b < 2 ^ d → (b ≡ 0 → ⊥) → exponent d b < 2 ^ d - 1
   exponent-below b h n = stands-there b h n .1

@@ -4,7 +4,7 @@ ghost use mathlib.Core.Bool.{false};
 ghost use Prim.Native.Nat.{ℕ, suc, _-_, _*_, _/_, _%_, _^_, _<_};
 ghost use Rattle.refusal.specs.Refusal.{badDegree};
 ghost use Rattle.field.specs.Symbols.{modulus, plus, timesX, timesLow, times};
-ghost use Rattle.field.specs.Working.Bits.{Reducer};
+ghost use Rattle.field.specs.Working.Bits.{Reducer, halved};
 
 // For the crates above: a bit times a byte.
 pub fn masked(bit: u8, x: u8) -> u8
@@ -48,6 +48,18 @@ pub(crate) fn double(degree: u32, half: u8, low: u8, v: u8) -> u8
     ensures { λ r. ⌜ r ≡ timesX degree v ⌝ }
 {
     if v < half { v << 1 } else { (v << 1) ^ low }
+}
+
+// The symbol whose double v is. An odd one had the polynomial taken off: half of that, half its low bits and the top bit, is put back.
+pub(crate) fn halve(degree: u32, half: u8, low: u8, v: u8) -> u8
+    requires { ⌜ Reducer degree half low × (v < 2 ^ degree) ⌝ }
+    ensures { λ r. ⌜ r ≡ halved degree v ⌝ }
+{
+    if v % 2 == 0 {
+        v / 2
+    } else {
+        (v / 2) ^ (low / 2 | half)
+    }
 }
 
 // A bit of a product: the low bit of w times s, and x times the sum of the higher ones.

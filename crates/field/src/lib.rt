@@ -48,8 +48,7 @@ pub fn product(degree: u32, a: u8, b: u8) -> Value
     if k != 0 {
         return Value::Refused(k);
     }
-    let table = tables::lend(degree);
-    Value::Symbol(tables::product_from(&table, degree, a, b))
+    Value::Symbol(bits::product(degree, a, b))
 }
 
 // The quotient of two symbols; refusals 1, 7 and 25, a zero divisor.

@@ -23,6 +23,5 @@ pub product-spec : {M : Type 1} → statement M
 product-spec = tie.close (tie.spec
     (λ c κs. search needs)
     (λ c. refuses _ _ (c .before .first-refusal .ensures) (c .if1 .taken))
-    (λ c κs. known c .degree)
-    (λ c κs. let ok = known (c .before .before) in (ok .degree, (c .before .lend .ensures, (ok .left, ok .right))))
-    (λ c. gives _ _ (none (c .before .before .before)) (c .product-from .ensures)))
+    (λ c κs. let ok = known c in (ok .degree, (ok .left, ok .right)))
+    (λ c. gives _ _ (none (c .before)) (c .product .ensures)))

@@ -5,7 +5,7 @@ use native.Mathlib.Omega.{arith}
 use borrow.Author.Tests.{eq-eqb, ne-eqb}
 use Rattle.refusal.specs.Refusal.{first}
 use Rattle.refusal.proofs.Ladders.{hit, miss-last, stopped, passed-on}
-use Rattle.field.specs.Values.{checks, quotientChecks}
+use Rattle.field.specs.Values.{quotientChecks}
 use Rattle.field.proofs.Promised.{Operands, operands, refuses, gives}
 use borrow.Author.Needs.{needs}
 use Rattle.field.proofs.quotient.Statement.{statement}
