@@ -24,7 +24,7 @@ use Rattle.refusal.proofs.Ladders.{clear, miss, miss-last}
 use Rattle.field.proofs.Instance.{field}
 use Rattle.codes.specs.Code.{Code, columns, rows, total, largest, IsMessage, IsArray, jointLimit}
 use Rattle.codes.specs.Factors.{Description}
-use Rattle.codes.specs.Checks.{unchecked, codeChecks, badFactors, wrongLength, spaceBytes, encodeChecks, readChecks}
+use Rattle.codes.specs.Checks.{unchecked, codeChecks, badFactors, wrongLength, spaceBytes, bufferChecks, encodeChecks, readChecks}
 use Rattle.codes.specs.Checks.{arrayChecks, decodeChecks}
 use Rattle.codes.proofs.Proper.{Within, Proper, neither, lengths-test, symbols-test, points-test, proper, array, message}
 use Rattle.codes.proofs.Factors.{Factors, factors-test}
@@ -127,6 +127,30 @@ pub factors-of : (D : Description) → wrongLength (columns (D .code)) (D .facto
     → Factors D
 factors-of D l e = record { count = right-length _ (D .factors) l; symbols = factors-test (D .code .degree) (D .factors) .0 e }
 
+-- what encoding and reading have in common, of a message m and an array a of which one is the input s
+record Coding (c : Code) (m a s : List ℕ) : Type 0 where
+  counts : Counts c
+  proper : Proper c
+  message-long : length m ≡ total (c .lengths)
+  array-long : length a ≡ rows c * columns c
+  symbols : someOutsideField (c .degree) s ≡ false
+
+coding : (D : Description) (m a s : List ℕ) → 0 ≡ first (codeChecks (D .code) ++ bufferChecks D m a s) → Coding (D .code) m a s × Factors D
+coding D m a s e =
+    let c = D .code in
+    let p = common D _ s [] e in
+    let (lengths, factors) = neither _ (wrongLength (columns c) (D .factors)) .0 (p .buffers) in
+    let (long, wide) = neither (wrongLength (total (c .lengths)) m) (wrongLength (rows c * columns c) a) .0 lengths in (
+      record {
+        counts = p .counts;
+        proper = p .proper;
+        message-long = right-length _ m long;
+        array-long = right-length _ a wide;
+        symbols = p .symbols;
+      },
+      factors-of D factors (p .factors),
+    )
+
 pub record PassedEncoding (c : Code) (m a : List ℕ) : Type 0 where
   pub counts : Counts c
   pub proper : Proper c
@@ -134,18 +158,10 @@ pub record PassedEncoding (c : Code) (m a : List ℕ) : Type 0 where
   pub array : length a ≡ rows c * columns c
 
 pub encoding : (D : Description) (m a : List ℕ) → 0 ≡ first (encodeChecks D m a) → PassedEncoding (D .code) m a × Factors D
-encoding D m a e =
-    let p = common D _ m [] e in
-    let l₂ = neither _ (wrongLength (columns (D .code)) (D .factors)) .0 (p .buffers) in
-    let l = neither (wrongLength (total (D .code .lengths)) m) (wrongLength (rows (D .code) * columns (D .code)) a) .0 (l₂ .0) in (
-      record {
-        counts = p .counts;
-        proper = p .proper;
-        message = message (D .code) m (right-length _ m (l .0)) (p .symbols);
-        array = right-length _ a (l .1);
-      },
-      factors-of D (l₂ .1) (p .factors),
-    )
+encoding D m a e = let (p, factors) = coding D m a m e in (
+  record { counts = p .counts; proper = p .proper; message = message (D .code) m (p .message-long) (p .symbols); array = p .array-long },
+  factors,
+)
 
 pub record PassedReading (c : Code) (a m : List ℕ) : Type 0 where
   pub counts : Counts c
@@ -154,18 +170,10 @@ pub record PassedReading (c : Code) (a m : List ℕ) : Type 0 where
   pub message : length m ≡ total (c .lengths)
 
 pub reading : (D : Description) (a m : List ℕ) → 0 ≡ first (readChecks D a m) → PassedReading (D .code) a m × Factors D
-reading D a m e =
-    let p = common D _ a [] e in
-    let l₂ = neither _ (wrongLength (columns (D .code)) (D .factors)) .0 (p .buffers) in
-    let l = neither (wrongLength (total (D .code .lengths)) m) (wrongLength (rows (D .code) * columns (D .code)) a) .0 (l₂ .0) in (
-      record {
-        counts = p .counts;
-        proper = p .proper;
-        array = array (D .code) a (right-length _ a (l .1)) (p .symbols);
-        message = right-length _ m (l .0);
-      },
-      factors-of D (l₂ .1) (p .factors),
-    )
+reading D a m e = let (p, factors) = coding D m a a e in (
+  record { counts = p .counts; proper = p .proper; array = array (D .code) a (p .array-long) (p .symbols); message = p .message-long },
+  factors,
+)
 
 -- what 1 to 7 of decoding leave
 pub record PassedArray (c : Code) (y a f w : List ℕ) : Type 0 where

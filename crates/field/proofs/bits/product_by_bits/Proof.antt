@@ -1,6 +1,7 @@
 -- `field::bits::product_by_bits` is the product.
 -- Assumes nothing.
 use mathlib.Core.Path.{refl, _∙_}
+use Prim.Native.Nat.{_^_, _<_}
 use lib.Pow.{pow-pos}
 use Rattle.refusal.proofs.Laws.{up-to-eight}
 use Rattle.field.specs.Working.Bits.{Reducer}
@@ -11,8 +12,8 @@ use Rattle.field.proofs.bits.product_by_bits.Tie as tie
 
 returns : tie.Need-returns
 returns c =
-    let p = c .before .before .pre .1 in
-    c .four-more .ensures .1 0 (low-zero _ _ _) ∙ low-times _ 4 _ _ (c .before .if1 .taken) (p .0) (p .1)
+    let (w, s) = c .before .before .pre .1 in
+    c .four-more .ensures .1 0 (low-zero _ _ _) ∙ low-times _ 4 _ _ (c .before .if1 .taken) w s
 
 -- the top bit of a byte, in the field of 256
 reducer : (c : tie.Else1) → Reducer (c .before .args .degree) 128 (c .before .args .low)
@@ -20,13 +21,17 @@ reducer c =
     let given = c .before .pre .0 in
     record { degree = given .degree; top = rw (eight _ (given .degree) (c .if1 .left)) refl; rest = given .rest }
 
+-- the second factor is a symbol
+second : (c : tie.Else1) → c .before .args .s < 2 ^ c .before .args .degree
+second c = let (w, s) = c .before .pre .1 in s
+
 returns-2 : tie.Need-returns-2
 returns-2 c =
-    let p = c .before .before .before .pre in
+    let (given, (w, s)) = c .before .before .before .pre in
     c .four-more3 .ensures .1 4 (rw (sixteenth _) at (c .before .four-more2 .ensures .1 0 (low-zero _ _ _)))
-    ∙ low-times _ 8 _ _ (up-to-eight _ (p .0 .degree)) (p .1 .0) (p .1 .1)
+    ∙ low-times _ 8 _ _ (up-to-eight _ (given .degree)) w s
 
 pub product-by-bits-spec : {M : Type 1} → statement M
 product-by-bits-spec =
-    tie.close (tie.spec (λ c κs. search needs) returns (λ c κs. (reducer c, (c .before .pre .1 .1, pow-pos _)))
-    (λ c κs. (reducer (c .before), (c .before .before .pre .1 .1, c .four-more2 .ensures .0))) returns-2)
+    tie.close (tie.spec (λ c κs. search needs) returns (λ c κs. (reducer c, (second c, pow-pos _)))
+    (λ c κs. (reducer (c .before), (second (c .before), c .four-more2 .ensures .0))) returns-2)
