@@ -23,7 +23,7 @@ use Rattle.field.proofs.Laws.{Field}
 use Rattle.poly.specs.Poly.{All, Zero, Poly, value, valuesAt, mul, Fits}
 use Rattle.poly.proofs.Roots.{mul-cancel}
 use Rattle.poly.proofs.Values.{length-values, symbols-values}
-use Rattle.codes.specs.Code.{Code, total, IsArray, encodedRows, encoded, CodeArray, flagsOf, wrongCount, jointLimit}
+use Rattle.codes.specs.Code.{Code, total, IsArray, encodedRows, encoded, CodeArray, flagsOf, wrongCount, jointLimit, upFrom}
 use Rattle.codes.specs.Near.{Nearest, Near, Far}
 use Rattle.codes.proofs.Parts.{empty, all-drop, poly-take}
 use Rattle.codes.proofs.Proper.{Proper}
@@ -31,7 +31,7 @@ use Rattle.codes.proofs.Limits.{Room, joint-room}
 use Rattle.ending.specs.Locators.{RowsDivide}
 use Rattle.ending.specs.Endings.{Buffers, Corrects}
 use Rattle.ending.proofs.Rows.{poly-product, fits-unique, fits-product}
-use Rattle.powers.specs.Powers.{upFrom, powerLength, powerLengths, powerRow, powerRows, rowCode, powerCode, powerOf, powersOf}
+use Rattle.powers.specs.Powers.{powerLength, powerLengths, powerRow, powerRows, rowCode, powerCode, powerOf, powersOf}
 use Rattle.powers.specs.Working.{powerLengthsFrom, powerRowsFrom, powersFrom, Row, Shape}
 use Rattle.powers.proofs.Polynomials.{power-symbols, poly-power, value-power, encoded-powers, powers-message}
 use Rattle.powers.proofs.Sizes.{length-one}

@@ -23,10 +23,10 @@ use Rattle.poly.proofs.Ring.{ring, times-one, no-divisors, over-times, over-uni
 use Rattle.poly.proofs.Sums.{scale-one}
 use Rattle.poly.proofs.Products.{mul-const, length-mul, symbols-mul}
 use Rattle.poly.proofs.Values.{value-const, value-mul}
-use Rattle.codes.specs.Code.{IsMessage, total, encodedRows, encoded}
+use Rattle.codes.specs.Code.{IsMessage, total, encodedRows, encoded, upFrom}
 use Rattle.codes.proofs.Parts.{all-append}
 use Rattle.codes.proofs.Factors.{Factor}
-use Rattle.powers.specs.Powers.{upFrom, powerLength, powerRow, powerRows, powerCode, powerOf, powersOf}
+use Rattle.powers.specs.Powers.{powerLength, powerRow, powerRows, powerCode, powerOf, powersOf}
 use Rattle.powers.specs.Working.{powerLengthsFrom, powerRowsFrom, powersFrom}
 
 -- a product of products

@@ -22,7 +22,8 @@ use Rattle.field.proofs.Instance.{field}
 use Rattle.field.proofs.Sums.{plus-zero}
 use Rattle.lists.specs.Working.Lists.{SymbolsAt, multiplied, multipliedAt}
 use Rattle.codes.proofs.Parts.{all-at}
-use Rattle.powers.specs.Powers.{upFrom, powerRow, powerRows}
+use Rattle.codes.specs.Code.{upFrom}
+use Rattle.powers.specs.Powers.{powerRow, powerRows}
 use Rattle.powers.specs.Working.{powerRowsFrom, Raising}
 use Rattle.powers.proofs.Rows.{length-row, getD-row, row-in, row-one, length-rows}
 

@@ -23,10 +23,10 @@ use Rattle.field.specs.Symbols.{IsSymbol, raised}
 use Rattle.field.specs.Arithmetic.{gf}
 use Rattle.field.proofs.Laws.{Field}
 use Rattle.poly.specs.Poly.{All}
-use Rattle.codes.specs.Code.{IsArray, differs, differsAt, flagsOf}
+use Rattle.codes.specs.Code.{IsArray, differs, differsAt, flagsOf, upFrom}
 use Rattle.codes.proofs.Parts.{all-append, all-at}
 use Rattle.codes.proofs.Flags.{flags-same}
-use Rattle.powers.specs.Powers.{upFrom, powerRow, powerRows, rowCode, powerCode}
+use Rattle.powers.specs.Powers.{powerRow, powerRows, rowCode, powerCode}
 use Rattle.powers.specs.Working.{powerRowsFrom, Row}
 use Rattle.powers.proofs.Polynomials.{raised-in, raised-one}
 use Rattle.powers.proofs.Sizes.{length-powers}

@@ -19,7 +19,8 @@ use Rattle.patch.proofs.Parts.{patch-is-lay, take-lay}
 use Rattle.refusal.specs.Refusal.{isIn}
 use Rattle.refusal.proofs.Repeats.{stands-not}
 use Rattle.codes.proofs.Proper.{Within}
-use Rattle.powers.specs.Powers.{upFrom, powerLength, powerLengths}
+use Rattle.codes.specs.Code.{upFrom}
+use Rattle.powers.specs.Powers.{powerLength, powerLengths}
 use Rattle.powers.specs.Working.{powerLengthsFrom}
 
 pub length-powers : (k i s : ℕ) → length (powerLengthsFrom k i s) ≡ s

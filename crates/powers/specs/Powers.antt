@@ -1,6 +1,5 @@
 -- One row read as several: 02, 2026-09, 'raise each received symbol to the powers 1 to s, giving s rows with message lengths i(k−1)+1'.
 
---   upFrom i n               the n numbers from i on
 --   powerLength k i          the message length of the power i; powerLengths k s, those of the powers 1 to s
 --   powerRow d i z           each symbol of the row z to the power i; powerRows d s z, the powers 1 to s, row after row
 --   rowCode d xs k           the single-row code; powerCode d xs k s, the code of the s rows
@@ -10,11 +9,7 @@ use Prim.Native.Nat.{ℕ, zero, suc, _+_, _-_, _*_}
 use Rattle.field.specs.Symbols.{raised}
 use Rattle.field.specs.Arithmetic.{Arithmetic}
 use Rattle.poly.specs.Poly.{mul}
-use Rattle.codes.specs.Code.{Code, codeOf}
-
-unfoldable pub upFrom : (i n : ℕ) → List ℕ
-upFrom i zero = []
-upFrom i (suc n) = i ∷ upFrom (suc i) n
+use Rattle.codes.specs.Code.{Code, codeOf, upFrom}
 
 -- 'message lengths i(k−1)+1'
 abbrev pub powerLength : (k i : ℕ) → ℕ

@@ -18,14 +18,14 @@ use Rattle.refusal.specs.Refusal.{badDegree}
 use Rattle.field.specs.Symbols.{IsSymbol}
 use Rattle.field.specs.Arithmetic.{Arithmetic}
 use Rattle.poly.specs.Poly.{All}
-use Rattle.codes.specs.Code.{jointLimit}
+use Rattle.codes.specs.Code.{jointLimit, upFrom}
 use Rattle.codes.specs.Checks.{unchecked, spaceBytes}
 use Rattle.codes.proofs.Proper.{Proper}
 use Rattle.codes.proofs.Passed.{Counts}
 use Rattle.factors.specs.Working.{Striking}
 use Rattle.ending.specs.declared.Ending.{Ending}
 use Rattle.ending.specs.declared.Ending.the-variants.{Corrected}
-use Rattle.powers.specs.Powers.{upFrom, powerLength, powerRow, powerCode, powerOf}
+use Rattle.powers.specs.Powers.{powerLength, powerRow, powerCode, powerOf}
 
 abbrev pub powerLengthsFrom : (k i s : ℕ) → List ℕ
 powerLengthsFrom k i s = map (powerLength k) (upFrom i s)
