@@ -22,7 +22,7 @@ use Rattle.poly.specs.Poly.{All}
 use Rattle.desk.specs.Desk.{withColumn, withArray, placed}
 use Rattle.desk.specs.declared.Desk.{Desk}
 
-all-set : (P : ℕ → Type 0) (a : List ℕ) (i x : ℕ) → P x → All P a → All P (set a i x)
+pub all-set : (P : ℕ → Type 0) (a : List ℕ) (i x : ℕ) → P x → All P a → All P (set a i x)
 all-set P [] i x p h = tt
 all-set P (y ∷ a) zero x p h = (p, h .1)
 all-set P (y ∷ a) (suc i) x p h = (h .0, all-set P a i x p (h .1))
@@ -76,7 +76,7 @@ one-cell n l m j i p q e = go (decLt l m) (decLt m l)
 pub record Writing (d₀ : Desk) (i : ℕ) (s : List ℕ) (d : Desk) (start l : ℕ) : Type 0 where
   pub within : l ≤ length s
   pub place : start ≡ l * d₀ .columns
-  pub others : d ≡ withArray d₀ (d .array)
+  pub others : d ≡ withArray d₀ (d .array) (d₀ .above) (d₀ .misfits)
   pub written : withColumn (d₀ .columns) (start + i) (drop l s) (d .array) ≡ withColumn (d₀ .columns) i s (d₀ .array)
 
 pub writing-begin : (d : Desk) (i : ℕ) (s : List ℕ) → Writing d i s d 0 0
@@ -84,12 +84,12 @@ writing-begin d i s = record { within = omega arith; place = sym (zero-mul (d .c
 
 module _ {d₀ : Desk} {i : ℕ} {s : List ℕ} {d : Desk} {start l : ℕ} (w : Writing d₀ i s d start l) where
   pub writing-again : (x : ℕ) → x ≡ getD s l 0 → l < length s
-      → Writing d₀ i s (withArray d (set (d .array) (start + i) x)) (start + d₀ .columns) (l + 1)
+      → Writing d₀ i s (withArray d (set (d .array) (start + i) x) (d .above) (d .misfits)) (start + d₀ .columns) (l + 1)
   unfolding withColumn
   writing-again x e h = record {
     within = omega arith;
     place = rw add-one (omega (arith, suc-mul l (d₀ .columns), w .place));
-    others = ap (λ (f : Desk). withArray f (set (d .array) (start + i) x)) (w .others);
+    others = ap (λ (f : Desk). withArray f (set (d .array) (start + i) x) (f .above) (f .misfits)) (w .others);
     written =
         ap₂ (λ (j y : ℕ). withColumn (d₀ .columns) j (drop (l + 1) s) (set (d .array) (start + i) y)) (omega arith) e
         ∙ step (start + i) (d .array) ∙ w .written;
@@ -101,4 +101,4 @@ module _ {d₀ : Desk} {i : ℕ} {s : List ℕ} {d : Desk} {start l : ℕ} (w : 
 
   pub writing-end : length s ≤ l → d ≡ placed d₀ i s
   unfolding withColumn
-  writing-end h = w .others ∙ ap (withArray d₀) (rw (drop-of-length-le s h) at (w .written))
+  writing-end h = w .others ∙ ap (λ (a : List ℕ). withArray d₀ a (d₀ .above) (d₀ .misfits)) (rw (drop-of-length-le s h) at (w .written))

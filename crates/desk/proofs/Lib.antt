@@ -1,7 +1,11 @@
 pub mod Columns
 pub mod Verdicts
-pub mod Promised
+pub mod Handed
 pub mod Sound
+pub mod Coefficients
+pub mod Raising
+pub mod Known
+pub mod Promised
 pub mod Replaced
 pub mod NoMisfit
 pub mod Plain

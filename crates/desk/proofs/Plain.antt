@@ -21,12 +21,12 @@ use Rattle.codes.proofs.Proper.{Proper}
 use Rattle.codes.proofs.Passed.{is-right}
 use Rattle.codes.proofs.Factors.{each-one, ones-pass, divided-ones}
 use Rattle.mark.specs.Promises.{meaning}
-use Rattle.desk.specs.Desk.{deskCode, deskDescription, arrayOf, zeroDesk, spare, openChecks, placed, putChecks, Opens, Puts, Made}
+use Rattle.desk.specs.Desk.{deskCode, deskDescription, arrayOf, zeroDesk, spare, openChecks, putChecks, Next, Opens, Puts, Made}
 use Rattle.desk.specs.Verdict.{Misfits, Verdict}
 use Rattle.desk.specs.declared.Desk.{Desk}
 use Rattle.desk.specs.declared.Opened.{Opened}
 use Rattle.desk.specs.declared.Put.{Put}
-use Rattle.desk.proofs.Promised.{handed}
+use Rattle.desk.proofs.Handed.{handed}
 use Rattle.desk.proofs.Sound.{passed, described-zero, spare-passed, sound, is-array}
 use Rattle.desk.proofs.NoMisfit.{quotient-code}
 
@@ -49,13 +49,13 @@ described : (d : Desk) (c : Code) → deskDescription d ≡ plain c → Plain d
 described d c e = e ∙ ap (λ (D : Description). plain (D .code)) (sym e)
 
 pub plain-opened : (c : Code) (r : Opened) → Opens (plain c) r → Plain (r .desk)
-plain-opened c r h = handed (openChecks (plain c)) (zeroDesk (plain c)) (zeroDesk spare) (meaning (r .outcome), r .desk) h
+plain-opened c r h = handed (openChecks (plain c)) (λ d. d ≡ zeroDesk (plain c)) (zeroDesk spare) (meaning (r .outcome), r .desk) h
     (λ none e. subst Plain (sym e) (described (zeroDesk (plain c)) c (described-zero (plain c) (passed (plain c) none))))
     (λ e. subst Plain (sym e) (described (zeroDesk spare) (spare .code) (described-zero spare spare-passed)))
 
 pub plain-put : (d : Desk) (i : ℕ) (s : List ℕ) (r : Put) → Plain d → Puts d i s r → Plain (r .desk)
-plain-put d i s r p h = handed (putChecks d i s) (placed d i s) d (meaning (r .outcome), r .desk) h
-    (λ none e. subst Plain (sym e) p)
+plain-put d i s r p h = handed (putChecks d i s) (Next d i s) d (meaning (r .outcome), r .desk) h
+    (λ none e. subst Plain (sym (e .0)) p)
     (λ e. subst Plain (sym e) p)
 
 pub undivided : (d : Desk) → Proper (deskCode d) → IsArray (deskCode d) (arrayOf d) → Plain d

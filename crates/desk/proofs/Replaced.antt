@@ -15,10 +15,10 @@ use Rattle.refusal.specs.Refusal.{first}
 use Rattle.codes.specs.Code.{columns, rows, differsAt}
 use Rattle.mark.specs.Promises.{meaning}
 use Rattle.codes.proofs.Columns.{agree-exactly, agree-at}
-use Rattle.desk.specs.Desk.{deskCode, deskDescription, arrayOf, placed, putChecks, Puts, Made}
+use Rattle.desk.specs.Desk.{deskCode, deskDescription, arrayOf, withArray, placed, putChecks, Next, Puts, Made}
 use Rattle.desk.specs.declared.Desk.{Desk}
 use Rattle.desk.specs.declared.Put.{Put}
-use Rattle.desk.proofs.Promised.{handed-done}
+use Rattle.desk.proofs.Handed.{handed-done}
 use Rattle.desk.proofs.Columns.{column-there, column-other, cell, one-cell}
 use Rattle.desk.proofs.Sound.{puttable, sound}
 
@@ -26,8 +26,8 @@ module _ (d : Desk) (i : ℕ) (s : List ℕ) (r : Put) (m : Made d) (e : 0 ≡ f
   abbrev after : Desk
   after = r .desk
 
-  next : after ≡ placed d i s
-  next = handed-done (putChecks d i s) (placed d i s) d (meaning (r .outcome), r .desk) h e
+  next : after ≡ withArray d (placed d i s .array) (after .above) (after .misfits)
+  next = handed-done (putChecks d i s) (Next d i s) d (meaning (r .outcome), r .desk) h e .0
 
   pub code-kept : deskDescription after ≡ deskDescription d
   code-kept = ap deskDescription next

@@ -5,23 +5,22 @@
 --                    and the lengths ks that it does not use are zero
 --   Sound d          the desk has such a code; its array is symbols, and zero in the places that the code does not use
 --   is-array         the array of a sound desk is one of its code; is-quotient, so it is divided by the factors
---   cell-count       an array of it has as many symbols as the desk has cells
---   dividing, quotient-cells    the array can be divided, and the cells of what was written are then the quotient
+--   quotient-size, quotient-at    how many symbols the quotient has, and what stands in it
 --   Openable D       what the checks of opening leave; passed, from them; few-factors, there are at most 16
---   Puttable d i s   what the checks of putting leave; puttable, from them
+--   puttable         what the checks of putting leave
 --   described-zero   the description of the desk that was opened with it
 --   spare-passed     the desk that a refused opening hands over could itself be opened
---   sound            a desk that came from opening and putting is sound
+--   sound            a desk that came from opening and putting is sound; sound-placed, so is a sound one with a column put
 -- Assumes nothing.
 use mathlib.Core.Path.{_≡_, refl, sym, ap, ap₂, _∙_, subst}
 use mathlib.Core.Bool.{false}
 use mathlib.Core.List.{List}
 use Prim.Native.Nat.{ℕ, zero, suc, _+_, _*_, _≤_, _<_}
-use native.Mathlib.Nat.{mul-le-mul}
+use native.Mathlib.Nat.{zero-mul, suc-mul, mul-le-mul}
 use native.Mathlib.Decide.{decLt}
 use native.Mathlib.Omega.{arith}
-use lib.ListN.{length, getD, take, length-replicate, getD-replicate, List·getD-eq-default}
-use lib.Seq.{length-take-le}
+use lib.ListN.{length, getD, take, drop, length-replicate, getD-replicate, List·getD-eq-default}
+use lib.Seq.{length-take-le, getD-take, getD-drop}
 use lib.Pow.{pow-pos}
 use borrow.Author.Tests.{eqb-true, leb-false, not-false}
 use Rattle.patch.specs.Parts.{lay}
@@ -34,16 +33,16 @@ use Rattle.field.proofs.Instance.{field}
 use Rattle.poly.specs.Poly.{All}
 use Rattle.codes.specs.Code.{codeOf, columns, rows, IsArray}
 use Rattle.codes.specs.Factors.{Description, descriptionOf, withFactors, divided}
-use Rattle.codes.proofs.Parts.{all-take}
+use Rattle.codes.proofs.Parts.{all-take, row-length, rest-length}
 use Rattle.codes.proofs.Proper.{Proper, proper, symbols-test}
 use Rattle.codes.proofs.Passed.{right-length}
-use Rattle.codes.proofs.Factors.{Factors, factors-test, is-divided}
-use Rattle.factors.specs.Working.{Striking}
+use Rattle.codes.proofs.Factors.{Factors, factors-test, getD-row, made-row, made-rest, is-divided}
 use Rattle.desk.specs.Desk.{deskCode, deskDescription, arrayOf, zeros, zeroDesk, spare, openChecks, placed, putChecks}
-use Rattle.desk.specs.Desk.{Made, opened, put}
+use Rattle.desk.specs.Desk.{Made, opened, put, withArray, Next}
+use Rattle.desk.specs.Working.{Puttable}
 use Rattle.desk.specs.declared.Desk.{Desk}
 use Rattle.mark.specs.Promises.{meaning}
-use Rattle.desk.proofs.Promised.{handed}
+use Rattle.desk.proofs.Handed.{handed}
 use Rattle.desk.proofs.Columns.{length-column, all-column, column-other, cell}
 
 abbrev pub ZeroFrom : ℕ → List ℕ → Type 0
@@ -83,24 +82,41 @@ is-array {d} h = let f = h .frame in record {
 pub is-quotient : {d : Desk} → Sound d → IsArray (deskCode d) (divided (deskDescription d) (arrayOf d))
 is-quotient {d} h = is-divided (deskDescription d) (h .frame .proper) (h .frame .factors) (is-array h)
 
+-- what stands in r rows, each symbol with its column's factor
+getD-with : (f : ℕ → ℕ → ℕ) (fs : List ℕ) (r : ℕ) (a : List ℕ) → length a ≡ r * length fs → (l j : ℕ) → l < r → j < length fs
+    → getD (withFactors f fs r a) (l * length fs + j) 0 ≡ f (getD fs j 0) (getD a (l * length fs + j) 0)
+getD-with f fs zero a e l j h g = absurd (omega arith)
+getD-with f fs (suc r) a e zero j h g =
+    let n : ℕ = length fs in
+    let here : 0 * n + j ≡ j = omega (arith, zero-mul n) in
+    rw here (sym (getD-take n (withFactors f fs (suc r) a) j 0 g) ∙ ap (λ (b : List ℕ). getD b j 0) (made-row f fs r a e)
+    ∙ getD-row f fs (take n a) (row-length r n a e) j g ∙ ap (f (getD fs j 0)) (getD-take n a j 0 g))
+getD-with f fs (suc r) a e (suc l) j h g =
+    let n : ℕ = length fs in
+    let there : suc l * n + j ≡ n + (l * n + j) = omega (arith, suc-mul l n) in
+    rw there (sym (getD-drop n (withFactors f fs (suc r) a) (l * n + j) 0)
+    ∙ ap (λ (b : List ℕ). getD b (l * n + j) 0) (made-rest f fs r a e)
+    ∙ getD-with f fs r (drop n a) (rest-length r n a e) l j (omega arith) g ∙ ap (f (getD fs j 0)) (getD-drop n a (l * n + j) 0))
+
 module _ {d : Desk} (h : Sound d) where
-  pub cell-count : {a : List ℕ} → IsArray (deskCode d) a → length a ≡ d .rows * d .columns
-  cell-count i = i .count ∙ ap₂ _*_ (h .frame .row-count) (h .frame .column-count)
+  abbrev pub quotient : List ℕ
+  quotient = divided (deskDescription d) (arrayOf d)
 
-  pub dividing : Striking (d .degree) (take (d .columns) (d .factors)) (d .rows) (arrayOf d)
-  dividing = let f = h .frame in record {
-    degree = f .degree;
-    factors = f .factors .symbols;
-    most = omega (arith, f .factor-count, f .most-columns);
-    count = cell-count (is-array h) ∙ ap (λ (n : ℕ). d .rows * n) (sym (f .factor-count));
-    symbols = is-array h .symbols;
-  }
+  pub quotient-size : length quotient ≡ d .rows * d .columns
+  quotient-size = is-quotient h .count ∙ ap₂ _*_ (h .frame .row-count) (h .frame .column-count)
 
-  pub quotient-cells : (s : List ℕ)
-      → take (length (arrayOf d)) s ≡ withFactors (λ f a. over (d .degree) a f) (take (d .columns) (d .factors)) (d .rows) (arrayOf d)
-      → take (d .rows * d .columns) s ≡ divided (deskDescription d) (arrayOf d)
-  quotient-cells s e = ap (λ (n : ℕ). take n s) (sym (cell-count (is-array h))) ∙ e
-      ∙ ap (λ (r : ℕ). withFactors (λ f a. over (d .degree) a f) (take (d .columns) (d .factors)) r (arrayOf d)) (sym (h .frame .row-count))
+  pub quotient-at : (l j : ℕ) → l < d .rows → j < d .columns
+      → getD quotient (l * d .columns + j) 0 ≡ over (d .degree) (getD (d .array) (l * d .columns + j) 0) (getD (d .factors) j 0)
+  quotient-at l j p q =
+      let f = h .frame in
+      let n = d .columns in
+      let there = l * n + j in
+      ap (λ (m : ℕ). getD quotient (l * m + j) 0) (sym (f .factor-count))
+      ∙ getD-with (λ f s. over (d .degree) s f) (take n (d .factors)) (rows (deskCode d)) (arrayOf d)
+      (is-array h .count ∙ ap (λ (m : ℕ). rows (deskCode d) * m) (f .column-count ∙ sym (f .factor-count)))
+      l j (omega (arith, f .row-count)) (omega (arith, f .factor-count))
+      ∙ ap (λ (m : ℕ). over (d .degree) (getD (arrayOf d) (l * m + j) 0) (getD (take n (d .factors)) j 0)) (f .factor-count)
+      ∙ ap₂ (over (d .degree)) (getD-take (d .rows * n) (d .array) there 0 (cell (d .rows) n l j p q)) (getD-take n (d .factors) j 0 q)
 
 -- ---- opening
 
@@ -139,7 +155,7 @@ passed D e =
       };
     }
 
-zeros-zero : (n i : ℕ) → getD (zeros n) i 0 ≡ 0
+pub zeros-zero : (n i : ℕ) → getD (zeros n) i 0 ≡ 0
 unfolding zeros
 zeros-zero n i = go (decLt i n)
   where
@@ -147,7 +163,7 @@ zeros-zero n i = go (decLt i n)
     go (yes h) = getD-replicate n i 0 0 h
     go (no h) = List·getD-eq-default (zeros n) 0 (rw (length-replicate n) (omega arith))
 
-length-zeros : (n : ℕ) → length (zeros n) ≡ n
+pub length-zeros : (n : ℕ) → length (zeros n) ≡ n
 unfolding zeros
 length-zeros n = length-replicate n 0
 
@@ -175,7 +191,7 @@ described-zero D p =
     let lengths = front 4 (D .code .lengths) (p .most-rows) in
     λ i. descriptionOf (D .code .degree) (points i) (factors i) (lengths i)
 
-sound-zero : (D : Description) → Openable D → Sound (zeroDesk D)
+pub sound-zero : (D : Description) → Openable D → Sound (zeroDesk D)
 sound-zero D p = let same = described-zero D p in record {
   frame = record {
     degree = p .degree;
@@ -207,11 +223,6 @@ spare-passed = passed spare refl
 
 -- ---- putting
 
-pub record Puttable (d : Desk) (i : ℕ) (s : List ℕ) : Type 0 where
-  pub column : i < d .columns
-  pub count : length s ≡ d .rows
-  pub symbols : All (IsSymbol (d .degree)) s
-
 pub puttable : (d : Desk) (i : ℕ) (s : List ℕ) → 0 ≡ first (putChecks d i s) → Puttable d i s
 puttable d i s e =
     let p₁ = clear 13 _ _ e in
@@ -223,8 +234,9 @@ puttable d i s e =
       symbols = symbols-test (d .degree) s .0 (p₃ .0);
     }
 
-sound-placed : (d : Desk) (i : ℕ) (s : List ℕ) → Sound d → Puttable d i s → Sound (placed d i s)
-sound-placed d i s h p =
+-- of whatever coefficients and number it has
+pub sound-placed : (d : Desk) (i : ℕ) (s t : List ℕ) (v : ℕ) → Sound d → Puttable d i s → Sound (withArray d (placed d i s .array) t v)
+sound-placed d i s t v h p =
     let inside : (l : ℕ) → l < length s → l * d .columns + i < d .rows * d .columns =
     λ l q. cell (d .rows) (d .columns) l i (omega (arith, p .count)) (p .column) in
     record {
@@ -235,9 +247,9 @@ sound-placed d i s h p =
     }
 
 pub sound : {d : Desk} → Made d → Sound d
-sound (opened D r h) = handed (openChecks D) (zeroDesk D) (zeroDesk spare) (meaning (r .outcome), r .desk) h
+sound (opened D r h) = handed (openChecks D) (λ d. d ≡ zeroDesk D) (zeroDesk spare) (meaning (r .outcome), r .desk) h
     (λ none e. subst Sound (sym e) (sound-zero D (passed D none)))
     (λ e. subst Sound (sym e) (sound-zero spare spare-passed))
-sound (put d i s r m h) = handed (putChecks d i s) (placed d i s) d (meaning (r .outcome), r .desk) h
-    (λ none e. subst Sound (sym e) (sound-placed d i s (sound m) (puttable d i s none)))
+sound (put d i s r m h) = handed (putChecks d i s) (Next d i s) d (meaning (r .outcome), r .desk) h
+    (λ none e. subst Sound (sym (e .0)) (sound-placed d i s _ _ (sound m) (puttable d i s none)))
     (λ e. subst Sound (sym e) (sound m))

@@ -1,6 +1,6 @@
 // The desk: a mark is put together on it, column by column, and each row is held to its length.
+mod above;
 mod checks;
-mod fit;
 
 ghost use mathlib.Core.Path.{_≡_};
 ghost use Prim.Native.Nat.{_≤_};
@@ -8,12 +8,13 @@ ghost use lib.ListN.{length, take};
 ghost use Rattle.codes.specs.Factors.{descriptionOf};
 ghost use Rattle.desk.specs.Desk.{Made, Opens, Puts, placed, zeroDesk};
 ghost use Rattle.desk.specs.Verdict.{Judges};
-ghost use Rattle.desk.specs.Working.{Placeable};
+ghost use Rattle.desk.specs.Working.{Placeable, Renewing, Renewed};
 use field::tables;
 use mark::Outcome;
 
-// A code, a factor for each of its columns, and an array, row after row. Places of the points, the factors, the lengths and the array
-// that the code does not use are zero.
+// A code, a factor for each of its columns, and an array, row after row. Laid out as the array, `above` has of each row, its symbols
+// divided by their columns' factors, the coefficients of the interpolating polynomial from the row's length on, and zeros before
+// them; `misfits` rows have a nonzero one. Places that the code does not use are zero.
 pub struct Desk {
     pub degree: u32,
     pub columns: usize,
@@ -22,6 +23,8 @@ pub struct Desk {
     pub factors: [u8; 16],
     pub lengths: [u8; 4],
     pub array: [u8; 64],
+    pub above: [u8; 64],
+    pub misfits: usize,
 }
 
 // What opening hands over.
@@ -57,6 +60,7 @@ impl Desk {
         let mut ks = [0u8; 4];
         rows::store(lengths, &mut ks, 0);
         let array = [0u8; 64];
+        let above = [0u8; 64];
         Desk {
             degree: degree,
             columns: points.len(),
@@ -65,6 +69,8 @@ impl Desk {
             factors: fs,
             lengths: ks,
             array: array,
+            above: above,
+            misfits: 0,
         }
     }
 
@@ -94,6 +100,37 @@ impl Desk {
         }
     }
 
+    // The desk with the coefficients and the number of misfits that it has once the symbols, one a row, are in the column.
+    fn renew(mut self, column: usize, symbols: [u8; 4]) -> Self
+        requires { ⌜ Renewing self column (take (self .rows) symbols) ⌝ }
+        ensures { λ r. ⌜ Renewed self column (take (self .rows) symbols) r ⌝ }
+    {
+        let degree = self.degree;
+        let n = self.columns;
+        let r = self.rows;
+        let points = self.points;
+        let factors = self.factors;
+        let lengths = self.lengths;
+        let array = self.array;
+        let mut above = self.above;
+        let table = tables::lend(degree);
+        let basis = above::basis(&table, degree, &points[..n], column);
+        above::raise(
+            &table,
+            degree,
+            &lengths[..r],
+            &basis[..n],
+            column,
+            factors[column],
+            &array,
+            &symbols[..r],
+            &mut above,
+        );
+        self.misfits = above::nonzero_rows(&above, r, n);
+        self.above = above;
+        self
+    }
+
     // The desk with the symbols, one a row, in a column.
     fn place(mut self, column: usize, symbols: [u8; 4]) -> Self
         requires { ⌜ Placeable self column ⌝ }
@@ -111,8 +148,8 @@ impl Desk {
         self
     }
 
-    // Puts the symbols, one a row, into a column, and changes nothing else; refusals 14, 5, 7. A refused put hands the desk
-    // back as it was.
+    // Puts the symbols, one a row, into a column, changes nothing else of the array, and keeps the coefficients and the number of
+    // misfits true; refusals 14, 5, 7. A refused put hands the desk back as it was.
     pub fn put(mut self, column: usize, symbols: &[u8]) -> Put
         requires { ⌜ Made self ⌝ }
         ensures { λ r. ⌜ Puts self column (now (symbols .entry)) r ⌝ }
@@ -128,6 +165,7 @@ impl Desk {
         }
         let mut four = [0u8; 4];
         rows::store(symbols, &mut four, 0);
+        self = self.renew(column, four);
         self = self.place(column, four);
         let replaced = Outcome::Done;
         Put {
@@ -137,24 +175,13 @@ impl Desk {
     }
 
     // The number of rows that, each symbol divided by its column's factor, are not values of a polynomial with at most as many
-    // coefficients as the row's length. The desk is handed back as it was.
+    // coefficients as the row's length: the desk knows it. The desk is handed back as it was.
     pub fn verdict(self) -> Judged
         requires { ⌜ Made self ⌝ }
         ensures { λ r. ⌜ Judges self r ⌝ }
         ensures { λ r. ⌜ Made (r .desk) ⌝ }
     {
-        let degree = self.degree;
-        let n = self.columns;
-        let r = self.rows;
-        let points = self.points;
-        let factors = self.factors;
-        let lengths = self.lengths;
-        let array = self.array;
-        let cells = r * n;
-        let mut plain = [0u8; 64];
-        factors::divide(degree, &factors[..n], r, &array[..cells], &mut plain);
-        let table = tables::lend(degree);
-        let verdict = fit::misfits(&table, degree, &points[..n], &lengths[..r], &plain[..cells]);
+        let verdict = self.misfits;
         Judged {
             verdict: verdict,
             desk: self,

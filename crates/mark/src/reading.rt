@@ -6,9 +6,9 @@ ghost use Rattle.mark.specs.Working.{Reading, ReadingRow, ReadingRows, R
 use field::tables;
 use field::tables::Table;
 
-// For the crates above: k rounds of divided differences of the row, at the front of s, and whether the values behind its first k
-// are all zero; ws are the inverses of the rounds. Up to 15 symbols behind the row change too.
-pub fn reduce_row(
+// k rounds of divided differences of the row, at the front of s, and whether the values behind its first k are all zero; ws are the
+// inverses of the rounds. Up to 15 symbols behind the row change too.
+fn reduce_row(
     table: &Table,
     degree: u32,
     points: &[u8],
@@ -25,9 +25,9 @@ pub fn reduce_row(
     rows::all_zero(&s[k..row.len()])
 }
 
-// The polynomial of a row's first k divided differences, in s from `at` on, and whether the reduced values are all zero; ws
-// are the inverses of the rounds.
-fn read_row(
+// For the crates above: the polynomial of a row's first k divided differences, in s from `at` on, and whether the reduced values
+// are all zero; ws are the inverses of the rounds.
+pub fn read_row(
     table: &Table,
     degree: u32,
     points: &[u8],

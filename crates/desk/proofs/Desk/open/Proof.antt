@@ -6,7 +6,7 @@ use Rattle.codes.specs.Factors.{Description, descriptionOf}
 use Rattle.mark.specs.declared.Outcome.the-variants.{Done, Refused}
 use Rattle.desk.specs.Desk.{openChecks, zeroDesk, spare, opened}
 use Rattle.desk.proofs.Sound.{passed, few-factors}
-use Rattle.desk.proofs.Promised.{hands, hands-not}
+use Rattle.desk.proofs.Handed.{hands, hands-not}
 use borrow.Author.Needs.{needs}
 use Rattle.desk.proofs.Desk.open.Statement.{statement}
 use Rattle.desk.proofs.Desk.open.Tie as tie
@@ -24,10 +24,10 @@ open-spec = tie.close (tie.spec
     (λ c κs. search needs) (λ c. search needs) (λ c. search needs) (λ c. search needs) (λ c κs. search needs)
     (λ c. let some = c .before .before .before .before in
     let given = described (some .before) in
-    let kept = hands-not (openChecks given) (zeroDesk given) (zeroDesk spare) (some .before .open-refusal .ensures) (some .if1 .taken)
-    (c .zero .ensures) in
+    let kept = hands-not (openChecks given) (λ d. d ≡ zeroDesk given) (zeroDesk spare) (some .before .open-refusal .ensures)
+    (some .if1 .taken) (c .zero .ensures) in
     (kept, opened given (record { outcome = Refused (some .before .open-refusal .result); desk = c .zero .result }) kept))
     (λ c κs. let p = passed (described (c .before)) (none c) in (p .most-columns, (few-factors _ p, p .most-rows)))
     (λ c. let given = described (c .before .before) in
-    let kept = hands (openChecks given) (zeroDesk given) (zeroDesk spare) (none (c .before)) (c .zero2 .ensures) in
+    let kept = hands (openChecks given) (λ d. d ≡ zeroDesk given) (zeroDesk spare) (none (c .before)) (c .zero2 .ensures) in
     (kept, opened given (record { outcome = Done; desk = c .zero2 .result }) kept)))
