@@ -1,7 +1,6 @@
 -- The coefficients of a row's interpolating polynomial from a place on.
 --
 --   Nodes d n xs      xs are n distinct points of the field
---   getD-values       the value at a point, among the values at all
 --   tail-low, tail-high    what stands in k zeros and a polynomial's coefficients from k on
 --   one-above         a row has one such list
 --   fits-exactly      a row is values of a polynomial with k coefficients exactly when its list is zero
@@ -26,7 +25,7 @@ use Rattle.field.proofs.Laws.{Field}
 use Rattle.poly.specs.Poly.{All, Zero, Poly, value, valuesAt, add, scale}
 use Rattle.poly.proofs.Ring.{plus-zero, times-comm, times-zero, times-one}
 use Rattle.poly.proofs.Sums.{poly-add-scale}
-use Rattle.poly.proofs.Values.{value-zero, value-append, value-add-scale, length-values}
+use Rattle.poly.proofs.Values.{getD-values, value-zero, value-append, value-add-scale, length-values}
 use Rattle.poly.proofs.Roots.{Distinct, interpolation}
 use Rattle.poly.proofs.Forms.{reduce, fromNewton}
 use Rattle.poly.proofs.Differences.{length-reduce, symbols-reduce}
@@ -69,12 +68,6 @@ pub record Nodes (d n : ℕ) (xs : List ℕ) : Type 0 where
   pub symbols : All (IsSymbol d) xs
 
 module _ (d : ℕ) (𝓕 : Field (gf d)) where
-  getD-values : (xs f : List ℕ) (j : ℕ) → j < length xs → getD (valuesAt (gf d) xs f) j 0 ≡ value (gf d) f (getD xs j 0)
-  unfolding valuesAt
-  getD-values [] f j h = absurd (omega arith)
-  getD-values (x ∷ xs) f zero h = refl
-  getD-values (x ∷ xs) f (suc j) h = getD-values xs f j (omega arith)
-
   values-append : (xs p z : List ℕ) → Zero (gf d) z → valuesAt (gf d) xs (p ++ z) ≡ valuesAt (gf d) xs p
   unfolding valuesAt
   values-append [] p z h = refl
@@ -137,7 +130,7 @@ module _ {d n : ℕ} {xs : List ℕ} (nodes : Nodes d n xs) where
         f,
         record { count = long; symbols = symbols-zeros d n },
         by-place (valuesAt (gf d) xs f) ys (length-values (gf d) 𝓕 xs f ∙ nodes .count) l
-            (λ j q. getD-values d 𝓕 xs f j (omega (arith, nodes .count)) ∙ value-zero (gf d) 𝓕 f (getD xs j 0) none ∙ sym (y j q)),
+            (λ j q. getD-values (gf d) xs f j 0 (omega (arith, nodes .count)) ∙ value-zero (gf d) 𝓕 f (getD xs j 0) none ∙ sym (y j q)),
         by-place t (tail k f) m (length-tail k f (omega arith) ∙ long) (λ j q. z j q ∙ sym (zero-tail j q (decLt j k))),
       )
     where
@@ -159,14 +152,14 @@ module _ {d n : ℕ} {xs : List ℕ} (nodes : Nodes d n xs) where
           g,
           q,
           by-place (valuesAt (gf d) xs g) ys′ (length-values (gf d) 𝓕 xs g ∙ nodes .count) count
-              (λ j h. getD-values d 𝓕 xs g j (omega (arith, nodes .count)) ∙ value-add-scale (gf d) 𝓕 f δ b (getD xs j 0)
+              (λ j h. getD-values (gf d) xs g j 0 (omega (arith, nodes .count)) ∙ value-add-scale (gf d) 𝓕 f δ b (getD xs j 0)
               ∙ ap₂ (λ (x y : ℕ). plus x (times d δ y)) (at-point f v j h) (at-point b unit j h) ∙ column j h (ℕ-discrete j i)),
           by-place t′ (tail k g) long (length-tail k g (omega (arith, q .count)) ∙ q .count)
               (λ j h. coefficient f p e j h (decLt j k)),
         )
       where
         at-point : (f : List ℕ) {ys : List ℕ} → valuesAt (gf d) xs f ≡ ys → (j : ℕ) → j < n → value (gf d) f (getD xs j 0) ≡ getD ys j 0
-        at-point f v j h = sym (getD-values d 𝓕 xs f j (omega (arith, nodes .count))) ∙ ap (λ (l : List ℕ). getD l j 0) v
+        at-point f v j h = sym (getD-values (gf d) xs f j 0 (omega (arith, nodes .count))) ∙ ap (λ (l : List ℕ). getD l j 0) v
 
         column : (j : ℕ) → j < n → Dec (j ≡ i) → plus (getD ys j 0) (times d δ (getD (set (replicate n 0) i 1) j 0)) ≡ getD ys′ j 0
         column j h (yes e) =

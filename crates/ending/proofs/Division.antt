@@ -15,7 +15,8 @@ use lib.ListN.{length, getD, take, drop, length-drop, take-append-drop}
 use lib.Seq.{getD-take}
 use Rattle.field.specs.Arithmetic.{Arithmetic, gf}
 use Rattle.field.proofs.Laws.{Field}
-use Rattle.poly.specs.Poly.{All, Zero, Poly, value, valuesAt, mul, Fits}
+use Rattle.poly.specs.Poly.{All, Zero, Poly, value, mul, Fits}
+use Rattle.poly.proofs.Values.{getD-values}
 use Rattle.poly.proofs.Roots.{Distinct, Vanishes, mul-cancel}
 use Rattle.codes.specs.Code.{Code, rows, columns, total, IsMessage, IsArray, encodedRows, encoded, differsAt}
 use Rattle.codes.proofs.Parts.{empty, all-take, all-drop, poly-take, row-length, rest-length}
@@ -45,12 +46,6 @@ along : (R P Q : ℕ → Type 0) (n : ℕ) → ((i : ℕ) → i < n → P i ↔ 
     → ((i : ℕ) → i < n → R i ⊎ P i) ↔ ((i : ℕ) → i < n → R i ⊎ Q i)
 along R P Q n e = (λ h i q. ⊎-elim inl (λ g. inr (e i q .0 g)) (h i q), λ h i q. ⊎-elim inl (λ g. inr (e i q .1 g)) (h i q))
 
-getD-values : (A : Arithmetic ℕ) (xs f : List ℕ) (i : ℕ) → i < length xs → getD (valuesAt A xs f) i 0 ≡ value A f (getD xs i 0)
-unfolding valuesAt
-getD-values A [] f i q = absurd (omega arith)
-getD-values A (x ∷ xs) f ℕ.zero q = refl
-getD-values A (x ∷ xs) f (suc i) q = getD-values A xs f i (omega arith)
-
 pub divides-fits : {K : Type 0} (A : Arithmetic K) (xs : List K) (t : ℕ) (E : List K) (ks : List ℕ) (y m : List K)
     → RowsDivide A xs t E ks y m → RowsFit A xs t E ks y
 divides-fits A xs t E [] y m h = tt
@@ -65,7 +60,7 @@ module _ (A : Arithmetic ℕ) (𝓕 : Field A) where
   value-at xs k ks m i q =
       sym (getD-take (length xs) (encodedRows A xs (k ∷ ks) m) i 0 q)
       ∙ ap (λ (r : List ℕ). getD r i 0) (first-row A 𝓕 xs k ks m)
-      ∙ getD-values A xs (take k m) i q
+      ∙ getD-values A xs (take k m) i 0 q
 
   -- one row: some N divides exactly when the product fits
   product-fits : (xs ys E f : List ℕ) {k t : ℕ} → 1 ≤ k → Poly A (suc t) E → Poly A k f

@@ -4,16 +4,25 @@
 --   value-const                          the value of a constant
 --   value-zero, value-append             zeros have the value zero, and change no value behind a list
 --   value-in                             the value of a list of symbols is a symbol
+--   getD-values                          the value at a point, among the values at all
 -- Assumes nothing.
 use mathlib.Core.Path.{_≡_, refl, sym, ap, ap₂, _∙_}
 use mathlib.Core.List.{List, [], _∷_, _++_}
 use mathlib.Core.Logic.{_↔_}
+use Prim.Native.Nat.{ℕ, zero, suc, _<_}
 use native.Mathlib.Omega.{arith}
-use lib.ListN.{length, length-map}
+use lib.ListN.{length, getD, length-map}
 use Rattle.field.specs.Arithmetic.{Arithmetic}
 use Rattle.field.proofs.Laws.{Field}
 use Rattle.poly.specs.Poly.{All, Zero, value, valuesAt, add, scale, mul}
 use Rattle.poly.proofs.Ring.{ring, zero-plus, plus-zero, times-zero}
+
+pub getD-values : {K : Type 0} (A : Arithmetic K) (xs f : List K) (i : ℕ) (d : K) → i < length xs
+    → getD (valuesAt A xs f) i d ≡ value A f (getD xs i d)
+unfolding valuesAt
+getD-values A [] f i d h = absurd (omega arith)
+getD-values A (x ∷ xs) f zero d h = refl
+getD-values A (x ∷ xs) f (suc i) d h = getD-values A xs f i d (omega arith)
 
 module _ {K : Type 0} (A : Arithmetic K) (𝓕 : Field A) where
   infixl 65 _⊕_
