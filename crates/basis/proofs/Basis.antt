@@ -148,7 +148,7 @@ module _ {K : Type 0} (A : Arithmetic K) (𝓕 : Field A) where
 -- ---- Descent on the lead: where a condition is zero on the entries of low lead, it is zero on all vectors of low lead.
 
 module _ {K : Type 0} (A : Arithmetic K) {s : ℕ} (𝓢 : Space A s) where
-  up-within : (k : ℕ) (v : List K) → 𝓢 .has v → 𝓢 .has (up A s k v)
+  pub up-within : (k : ℕ) (v : List K) → 𝓢 .has v → 𝓢 .has (up A s k v)
   unfolding up
   up-within zero v h = h
   up-within (suc k) v h = 𝓢 .shifted (up A s k v) (up-within k v h)
@@ -163,7 +163,7 @@ module _ {K : Type 0} (A : Arithmetic K) (𝓕 : Field A) {s : ℕ} (𝓢 : Spac
         plus-self A 𝓕 (C .of v),
       )
 
-  of-up : (k : ℕ) (v : List K) → 𝓢 .has v → C .of v ≡ A .zero → C .of (up A s k v) ≡ A .zero
+  pub of-up : (k : ℕ) (v : List K) → 𝓢 .has v → C .of v ≡ A .zero → C .of (up A s k v) ≡ A .zero
   unfolding up
   of-up zero v h z = z
   of-up (suc k) v h z = cc (lawful .of-shift (up A s k v) (up-within A 𝓢 k v h), of-up k v h z, times-zero A 𝓕 (C .factor))

@@ -1,6 +1,9 @@
 pub mod Vector
 pub mod Scan
 pub mod Basis
+pub mod Survive
+pub mod Placed
+pub mod Spread
 pub mod Lines
 pub mod Interleaved
 pub mod Solved

@@ -13,7 +13,7 @@
 --   size r m           the size of the solutions whose lead is m, with r rows: m / (r + 1), rounded up
 --   cut n p            the first n coefficients of p, zeros where p has no more
 --   locatorOf t e      the locator of size t on line e: t + 1 coefficients
---   Separate s l l′   no multiples of the stride make l and l′ equal
+--   Separate s l l′   no multiples of the stride make l and l′ equal: separate-below, where both are below it; separate-add, further on
 --   Apart s es        the leads of the lines are pairwise separate
 --   start-apart       so they are at the start
 --   step-apart        and after a step, if before
@@ -162,10 +162,10 @@ abbrev pub Apart : {K : Type 0} → ℕ → List (Line K) → Type 0
 Apart s [] = Unit {0}
 Apart s (e ∷ es) = All (λ f. Separate s (e .lead) (f .lead)) es × Apart s es
 
-separate-add : (s l l′ r r′ : ℕ) → Separate s l l′ → Separate s (r * s + l) (r′ * s + l′)
+pub separate-add : (s l l′ r r′ : ℕ) → Separate s l l′ → Separate s (r * s + l) (r′ * s + l′)
 separate-add s l l′ r r′ h i j e = h (i + r) (j + r′) (omega (arith, add-mul i r s, add-mul j r′ s))
 
-separate-below : (s l l′ : ℕ) → l < l′ → l′ < s → Separate s l l′
+pub separate-below : (s l l′ : ℕ) → l < l′ → l′ < s → Separate s l l′
 separate-below s l l′ lt high i j e = go (decLt i j) (decLt j i)
   where
     go : Dec (i < j) → Dec (j < i) → ⊥

@@ -6,6 +6,7 @@
 --   pivot-lowest   no line with a nonzero value has a lower lead
 --   Ready, ready   the values are symbols, the pivot's is not zero, and its lead and width are small
 --   raisable       what raising it asks: its slots have symbols, and nothing behind the locator
+--   all-get        what holds of all lines, of the line with a number
 --   heads-at       the values as the code reads them
 -- Assumes nothing.
 use mathlib.Core.Path.{_≡_, sym, ap, _∙_}
@@ -38,7 +39,7 @@ use Rattle.solver.proofs.Slots.{slots-length, slots-at}
 use Rattle.solver.proofs.Scanned.{scanned, line-some}
 use Rattle.solver.proofs.Kept.{after, slot-next, symbols-next, beyond}
 
-all-get : {L : Type 0} (P : L → Type 0) (l : List L) (z : L) (j : ℕ) → j < length l → All P l → P (getD l j z)
+pub all-get : {L : Type 0} (P : L → Type 0) (l : List L) (z : L) (j : ℕ) → j < length l → All P l → P (getD l j z)
 all-get P [] z j lt a = absurd (omega arith)
 all-get P (e ∷ l) z zero lt a = a .0
 all-get P (e ∷ l) z (suc j) lt a = all-get P l z j (omega arith) (a .1)

@@ -3,6 +3,7 @@
 --   found-some, found-none    the number of a line, and that of none
 --   passed, first, lower, kept    the four turns of a scan: the element passes; it is the first; it is lower; it is not
 --   rest, rest-all, rest-turn, rest-none    what the loop has left to scan decides: at the start, over a turn, at the end
+--   numbers-all               what holds of all numbers below a bound holds of those scanned
 --   line-some, line-none      the line with a number, and that with none
 --   scanned                   the scan by numbers finds what the scan over the lines finds that have these leads and marks
 -- Assumes nothing.
@@ -140,7 +141,7 @@ module _ {L : Type 0} (lead : L → ℕ) {P : L → Type 0} (test : (e : L) → 
         ap (λ (o : Option L). lowest lead test o (map get js)) (better-alike best j (test (get j)) (mark j) a (b .0))
         ∙ lowest-alike js (better number mark best j (mark j)) (better-has best j (mark j) a (b .0)) (b .1)
 
-numbers-all : (P : ℕ → Type 0) (j n : ℕ) → ((k : ℕ) → k < j + n → P k) → All P (numbers j n)
+pub numbers-all : (P : ℕ → Type 0) (j n : ℕ) → ((k : ℕ) → k < j + n → P k) → All P (numbers j n)
 unfolding numbers
 numbers-all P j zero h = tt
 numbers-all P j (suc n) h = (h j (omega arith), numbers-all P (suc j) n (λ k lt. h k (omega arith)))

@@ -1,5 +1,6 @@
 -- All lines over a condition: what the memory holds after a step.
 --
+--   map-get        what a function makes of the line with a number
 --   step-none      where no value is nonzero the memory stays, and holds the next lines
 --   step-some      where the lines are mixed with the pivot, and the pivot is raised, it holds the next lines
 -- Assumes nothing.
@@ -31,7 +32,7 @@ use Rattle.solver.proofs.Mixing.{mixed-pivot, mixed-zero, mixed-other}
 use Rattle.solver.proofs.Kept.{after, slot-next, beyond, held-keep, held-mix}
 use Rattle.solver.proofs.Raised.{held-raise}
 
-map-get : {L : Type 0} (f : L → L) (l : List L) (z : L) (j : ℕ) → j < length l → getD (map f l) j z ≡ f (getD l j z)
+pub map-get : {L : Type 0} (f : L → L) (l : List L) (z : L) (j : ℕ) → j < length l → getD (map f l) j z ≡ f (getD l j z)
 map-get f [] z j lt = absurd (omega arith)
 map-get f (e ∷ l) z zero lt = refl
 map-get f (e ∷ l) z (suc j) lt = map-get f l z j (omega arith)

@@ -9,8 +9,8 @@ ghost use Rattle.solver.specs.Working.Held.{LeadsOf};
 ghost use Rattle.solver.specs.Working.Scan.{found, leadOf, unmarked, firstLowest, Marks};
 
 // The better of the best line so far, `lines` for none, and line j: of the marked ones the first of lowest lead.
-fn better(marks: &[u8; 5], leads: &[usize; 5], lines: usize, best: usize, j: usize) -> usize
-    requires { ⌜ (lines ≤ 5) × (best ≤ lines) × (j < lines) ⌝ }
+fn better(marks: &[u8], leads: &[usize], lines: usize, best: usize, j: usize) -> usize
+    requires { ⌜ (lines ≤ length (now marks)) × (lines ≤ length (now leads)) × (best ≤ lines) × (j < lines) ⌝ }
     ensures { λ r. ⌜ (r ≤ lines)
         × (found lines r
         ≡ better (leadOf (now (leads .entry))) (unmarked (now (marks .entry))) (found lines best) j (unmarked (now (marks .entry)) j)) ⌝ }
@@ -27,9 +27,9 @@ fn better(marks: &[u8; 5], leads: &[usize; 5], lines: usize, best: usize, j: usi
     best
 }
 
-// The number of the first line of lowest lead among those whose mark is not zero; `lines` where there is none.
-pub(crate) fn pivot(marks: &[u8; 5], leads: &[usize; 5], lines: usize) -> usize
-    requires { ⌜ lines ≤ 5 ⌝ }
+// For the crates above: the number of the first line of lowest lead among those whose mark is not zero; `lines` where there is none.
+pub fn pivot(marks: &[u8], leads: &[usize], lines: usize) -> usize
+    requires { ⌜ (lines ≤ length (now marks)) × (lines ≤ length (now leads)) ⌝ }
     ensures { λ r. ⌜ (r ≤ lines) × (found lines r ≡ firstLowest (now (marks .entry)) (now (leads .entry)) lines) ⌝ }
 {
     let mut best = lines;

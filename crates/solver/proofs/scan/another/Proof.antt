@@ -12,7 +12,7 @@ use Rattle.solver.proofs.scan.another.Tie as tie
 
 returns : tie.Need-returns
 returns c =
-    let m5 = c .before .before in
+    let m5 = c .before .before .before in
     let m4 = m5 .before .before in
     let m3 = m4 .before .before in
     let m2 = m3 .before .before in
@@ -40,5 +40,6 @@ another-spec =
     (λ c κs. search needs)
     (λ c. search needs)
     (λ c κs. search needs)
+    (λ c. search needs)
     (λ c κs. search needs)
     returns)

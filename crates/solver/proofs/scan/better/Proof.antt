@@ -15,10 +15,10 @@ returns-2 : tie.Need-returns-2
 returns-2 c =
     let start = c .before .before .before in
     let none-yet : start .args .lines ≤ start .args .best = omega (arith, c .if2 .taken) in
-    (search needs, found-some _ _ (start .pre .2) ∙ rw (found-none _ _ none-yet) (sym (first _ _ _ _ (c .before .if1 .left))))
+    (search needs, found-some _ _ (start .pre .3) ∙ rw (found-none _ _ none-yet) (sym (first _ _ _ _ (c .before .if1 .left))))
 
 -- line j has no mark, and a line was found before
-module _ (c : tie.After-if33) where
+module _ (c : tie.After-shared-slice-known3) where
   abbrev unmarked : tie.Else1
   unmarked = c .before .before .before
 
@@ -32,7 +32,7 @@ returns-3 : tie.Need-returns-3
 returns-3 c =
     let here = c .before in (
       search needs,
-      found-some _ _ (start here .pre .2)
+      found-some _ _ (start here .pre .3)
           ∙ rw (found-some _ _ (some-yet here)) (sym (lower _ _ _ _ _ (unmarked here .if1 .left) (c .if3 .taken))),
     )
 

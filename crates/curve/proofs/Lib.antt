@@ -1,0 +1,11 @@
+pub mod Orders
+pub mod TimesY
+pub mod Alive
+pub mod Zeros
+pub mod Products
+pub mod Pairs
+pub mod Kept
+pub mod Model
+pub mod Vanishing
+pub mod Found
+pub mod Complete

@@ -1,0 +1,14 @@
+pub mod Slots
+pub mod Mixed
+pub mod Lowest
+pub mod Turned
+pub mod Stepped
+pub mod Held
+pub mod Twofold
+pub mod Lines
+pub mod Points
+pub mod Forms
+pub mod Begun
+pub mod Runs
+pub mod Solved
+pub mod Answered
