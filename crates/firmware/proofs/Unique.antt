@@ -26,8 +26,9 @@ use Rattle.tray.specs.Promises.{GivenTray, LeftTray, leftTray, DecodesTray}
 use Rattle.tray.proofs.Unique as tray-unique
 use Rattle.ring.specs.Promises as rings
 use Rattle.ring.proofs.Unique as ring-unique
-use Rattle.ring.specs.Lost as ring-lost
-use Rattle.ring.proofs.Lost as ring-losing
+use Rattle.sectors.specs.Promises as sectors
+use Rattle.sectors.specs.Lost as sectors-lost
+use Rattle.sectors.proofs.Lost as sectors-unique
 use Rattle.firmware.specs.Returns.{Returns}
 
 module _ {E B : Type 0} (means : E → Meaning) (Keeps : E → B → Type 0)
@@ -86,11 +87,11 @@ ring-read q m w lent =
     (λ o o′ b b′ h h′. parts (ring-unique.reads-unique q m w lent (left o b) (left o′ b′) h h′))
 
 pub ring-decode : (q m τ : ℕ) (y : List ℕ) (lent : Buffers) (space : List ℕ) {r r′ : ℕ} {b b′ : Kept}
-    → Returns endingMeaning (λ (e : Ending). rings.Decodes q m τ y lent space (ended e b)) r
-    → Returns endingMeaning (λ (e : Ending). rings.Decodes q m τ y lent space (ended e b′)) r′ → (r ≡ r′) × (b ≡ b′)
+    → Returns endingMeaning (λ (e : Ending). sectors.Decodes q m τ y lent space (ended e b)) r
+    → Returns endingMeaning (λ (e : Ending). sectors.Decodes q m τ y lent space (ended e b′)) r′ → (r ≡ r′) × (b ≡ b′)
 ring-decode q m τ y lent space =
-    returns-unique endingMeaning (λ (e : Ending) (b : Kept). rings.Decodes q m τ y lent space (ended e b))
-    (λ e e′ b b′ h h′. ended-parts (ring-unique.decodes-unique q m τ y lent space (ended e b) (ended e′ b′) h h′))
+    returns-unique endingMeaning (λ (e : Ending) (b : Kept). sectors.Decodes q m τ y lent space (ended e b))
+    (λ e e′ b b′ h h′. ended-parts (sectors-unique.decodes-unique q m τ y lent space (ended e b) (ended e′ b′) h h′))
 
 pub mark-decode-lost : (L : List ℕ) (g : joint.Given) {r r′ : ℕ} {b b′ : Kept}
     → Returns endingMeaning (λ (e : Ending). joint-lost.DecodesLost L g (ended e b)) r
@@ -100,11 +101,11 @@ mark-decode-lost L g =
     (λ e e′ b b′ h h′. ended-parts (joint-losing.unique L g (ended e b) (ended e′ b′) h h′))
 
 pub ring-decode-lost : (L : List ℕ) (q m τ : ℕ) (y : List ℕ) (lent : Buffers) (space : List ℕ) {r r′ : ℕ} {b b′ : Kept}
-    → Returns endingMeaning (λ (e : Ending). ring-lost.DecodesLost L q m τ y lent space (ended e b)) r
-    → Returns endingMeaning (λ (e : Ending). ring-lost.DecodesLost L q m τ y lent space (ended e b′)) r′ → (r ≡ r′) × (b ≡ b′)
+    → Returns endingMeaning (λ (e : Ending). sectors-lost.DecodesLost L q m τ y lent space (ended e b)) r
+    → Returns endingMeaning (λ (e : Ending). sectors-lost.DecodesLost L q m τ y lent space (ended e b′)) r′ → (r ≡ r′) × (b ≡ b′)
 ring-decode-lost L q m τ y lent space =
-    returns-unique endingMeaning (λ (e : Ending) (b : Kept). ring-lost.DecodesLost L q m τ y lent space (ended e b))
-    (λ e e′ b b′ h h′. ended-parts (ring-losing.unique L q m τ y lent space (ended e b) (ended e′ b′) h h′))
+    returns-unique endingMeaning (λ (e : Ending) (b : Kept). sectors-lost.DecodesLost L q m τ y lent space (ended e b))
+    (λ e e′ b b′ h h′. ended-parts (sectors-unique.unique L q m τ y lent space (ended e b) (ended e′ b′) h h′))
 
 pub mark-decode-powers : (d k s : ℕ) (xs fs : List ℕ) (τ : ℕ) (y : List ℕ) (lent : Buffers) (space : List ℕ) {r r′ : ℕ} {b b′ : Kept}
     → Returns endingMeaning (λ (e : Ending). powered.Decodes d k s xs fs τ y lent space (ended e b)) r

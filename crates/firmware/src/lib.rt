@@ -10,7 +10,8 @@ ghost use Rattle.joint.specs.Lost.{DecodesLost};
 ghost use Rattle.powers.specs.Promises as powered;
 ghost use Rattle.tray.specs.Promises.{DecodesTray, givenTray, leftTray};
 ghost use Rattle.ring.specs.Promises as rings;
-ghost use Rattle.ring.specs.Lost as ring-lost;
+ghost use Rattle.sectors.specs.Promises as sectors;
+ghost use Rattle.sectors.specs.Lost as sectors-lost;
 use ending::Ending;
 use mark::Outcome;
 
@@ -228,11 +229,11 @@ pub extern "C" fn gren_ring_decode(
     flags: &mut [u8],
     space: &mut [u8],
 ) -> u32
-    ensures { λ r. ⌜ Returns endingMeaning (λ e. rings.Decodes
+    ensures { λ r. ⌜ Returns endingMeaning (λ e. sectors.Decodes
         q m limit (now (received .entry)) (buffers (now (answer .entry)) (now (flags .entry))) (now (space .entry))
         (ended e (buffers (now (answer .exit)) (now (flags .exit))) (now (space .exit)))) r ⌝ }
 {
-    pack(ring::decode(q, m, limit, received, answer, flags, space))
+    pack(sectors::decode(q, m, limit, received, answer, flags, space))
 }
 
 // Decodes a received ring of which some sectors are lost.
@@ -247,9 +248,9 @@ pub extern "C" fn gren_ring_decode_lost(
     flags: &mut [u8],
     space: &mut [u8],
 ) -> u32
-    ensures { λ r. ⌜ Returns endingMeaning (λ e. ring-lost.DecodesLost (now (lost .entry))
+    ensures { λ r. ⌜ Returns endingMeaning (λ e. sectors-lost.DecodesLost (now (lost .entry))
         q m limit (now (received .entry)) (buffers (now (answer .entry)) (now (flags .entry))) (now (space .entry))
         (ended e (buffers (now (answer .exit)) (now (flags .exit))) (now (space .exit)))) r ⌝ }
 {
-    pack(ring::decode_lost(q, m, limit, lost, received, answer, flags, space))
+    pack(sectors::decode_lost(q, m, limit, lost, received, answer, flags, space))
 }

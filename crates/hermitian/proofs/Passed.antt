@@ -1,5 +1,6 @@
 -- What the checks of a call leave true, and that the code of the ring's array passes its own.
 --
+--   first-of         the first check that applies is one of the checks
 --   ring-passed      what 10, 11 and 18 leave, and the checks that follow
 --   PassedEncoding, PassedReading, PassedWord, PassedLost    what the checks of a call leave, of decoding 10, 11, 18, 5 and 7, and all
 --                    checks with lost sectors; encoding, reading, words, losing, from them
@@ -7,16 +8,18 @@
 --   to-encode, to-read, to-array, to-lose    then no check of the call on the array applies
 -- Assumes nothing.
 use mathlib.Core.Path.{_≡_, refl, sym, _∙_}
-use mathlib.Core.Bool.{false}
-use mathlib.Core.List.{List, _++_}
+use mathlib.Core.Logic.{_⊎_, inl, inr, ⊎-elim}
+use mathlib.Core.Bool.{true, false}
+use mathlib.Core.List.{List, [], _∷_, _++_, map}
 use Prim.Native.Nat.{ℕ, _*_, _≤_}
 use lib.Dec.{ltb}
 use lib.ListN.{length, length-replicate}
 use borrow.Author.Tests.{ltb-false}
-use Rattle.refusal.specs.Refusal.{Check, first, someOutsideField}
+use Rattle.refusal.specs.Refusal.{Check, _when_, first, someOutsideField}
 use Rattle.refusal.proofs.Ladders.{miss, clear}
 use Rattle.field.specs.Symbols.{IsSymbol}
 use Rattle.poly.specs.Poly.{All}
+use Rattle.poly.proofs.Roots.{Mem}
 use Rattle.codes.specs.Code.{Code, rows, columns, total, IsMessage}
 use Rattle.codes.specs.Checks.{unchecked, codeChecks, wrongLength, spaceBytes, remainingChecks}
 use Rattle.codes.specs.Checks as Mark
@@ -26,9 +29,20 @@ use Rattle.codes.proofs.Passed.{right-length, is-right, code-passes, arrays-pas
 use Rattle.codes.proofs.Lost.{Remains, remains}
 use Rattle.codes.proofs.Factors.{each-one, ones-pass, ones-factors}
 use Rattle.hermitian.specs.Ring.{ringLengths, ringCode, IsRing}
-use Rattle.hermitian.specs.Checks.{badSize, badOrder, ringChecks, bufferChecks, encodeChecks, readChecks, wordChecks, lostChecks}
+use Rattle.hermitian.specs.Checks.{badSize, badOrder, ringChecks, bufferChecks, encodeChecks, readChecks, receivedChecks}
+use Rattle.hermitian.specs.Checks.{lostChecks}
 use Rattle.hermitian.proofs.Numbers.{length-numbers}
 use Rattle.hermitian.proofs.Sizes.{tested, ring-cells, ring-counts, ring-proper}
+
+abbrev numberIn : Check → ℕ
+numberIn (k when b) = k
+
+-- the first check that applies is one of the checks
+pub first-of : (cs : List Check) → (first cs ≡ 0) ⊎ Mem (first cs) (map numberIn cs)
+unfolding first
+first-of [] = inl refl
+first-of ((k when true) ∷ cs) = inr (inl refl)
+first-of ((k when false) ∷ cs) = ⊎-elim inl (λ h. inr (inr h)) (first-of cs)
 
 pub record Passed (q m : ℕ) : Type 0 where
   pub size : badSize q ≡ false
@@ -71,22 +85,22 @@ reading q m w f e =
     let (ring, message, word, symbols) = buffers q m f w w e in
     record { ring = ring; word = record { count = word; symbols = symbols-test q w .0 symbols }; message = message }
 
--- what 10, 11, 18, 5 and 7 of decoding leave
-pub record PassedWord (q m : ℕ) (y w f s : List ℕ) : Type 0 where
+-- what 10, 11, 18, 5 and 7 of decoding leave, where there are n flags
+pub record PassedWord (q m n : ℕ) (y w f s : List ℕ) : Type 0 where
   pub ring : Passed q m
   pub received : IsRing q y
   pub answer : length w ≡ q * q * q
-  pub flags : length f ≡ q * q
+  pub flags : length f ≡ n
   pub space : spaceBytes ≤ length s
 
-pub words : (q m : ℕ) (y w f s : List ℕ) (ds : List Check) → 0 ≡ first (wordChecks q m y w f s ++ ds)
-    → PassedWord q m y w f s × (0 ≡ first ds)
-words q m y w f s ds e =
+pub words : (q m n : ℕ) (y w f s : List ℕ) (ds : List Check) → 0 ≡ first (ringChecks q m ++ receivedChecks q n y w f s ++ ds)
+    → PassedWord q m n y w f s × (0 ≡ first ds)
+words q m n y w f s ds e =
     let p = ring-passed q m _ e in
     let p₅ = clear 4 _ _ (p .1) in
     let p₇ = clear 6 _ _ (p₅ .1) in
     let l₃ = neither _ (ltb (length s) spaceBytes) .0 (p₅ .0) in
-    let l₂ = neither _ (wrongLength (q * q) f) .0 (l₃ .0) in
+    let l₂ = neither _ (wrongLength n f) .0 (l₃ .0) in
     let l₁ = neither (wrongLength (q * q * q) y) (wrongLength (q * q * q) w) .0 (l₂ .0) in (
       record {
         ring = p .0;
@@ -99,13 +113,13 @@ words q m y w f s ds e =
     )
 
 pub record PassedLost (q m τ : ℕ) (L y w f s : List ℕ) : Type 0 where
-  pub word : PassedWord q m y w f s
+  pub word : PassedWord q m (q * q) y w f s
   pub rest : 0 ≡ first (remainingChecks (ringCode q m) τ L)
   pub remain : Remains (ringCode q m) τ L
 
 pub losing : (q m τ : ℕ) (L y w f s : List ℕ) → 0 ≡ first (lostChecks q m τ L y w f s) → PassedLost q m τ L y w f s
 losing q m τ L y w f s e =
-    let p = words q m y w f s _ e in
+    let p = words q m (q * q) y w f s _ e in
     record {
       word = p .0;
       rest = p .1;

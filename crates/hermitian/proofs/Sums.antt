@@ -23,7 +23,7 @@ use Rattle.codes.specs.Added.{Added}
 use Rattle.codes.specs.Checks.{wrongLength, spaceBytes}
 use Rattle.codes.proofs.Sums.{add-append, values-add, length-sum, getD-add, same-symbols}
 use Rattle.hermitian.specs.Ring.{numbers, sector, ringCode, RingWord, IsRing, column, ringOf}
-use Rattle.hermitian.specs.Checks.{badSize, badOrder, ringChecks, wordChecks}
+use Rattle.hermitian.specs.Checks.{badSize, badOrder, ringChecks, receivedChecks}
 use Rattle.hermitian.proofs.Rings.{ring-field, arrayOf, is-array, ring-of-array, array-of-ring}
 use Rattle.hermitian.proofs.Words.{word-ring, array-word}
 use Rattle.hermitian.proofs.Passed.{ring-passed}
@@ -83,12 +83,12 @@ module _ (q : ℕ) (size : badSize q ≡ false) where
 
 -- ---- of the checks
 
-module _ (q m : ℕ) {y a z : List ℕ} (h : Added (RingWord q m) q y a z) (w f s : List ℕ) (ds : List Check) where
+module _ (q m flags : ℕ) {y a z : List ℕ} (h : Added (RingWord q m) q y a z) (w f s : List ℕ) (ds : List Check) where
   -- those before 7, where a list of n symbols is received
   abbrev before : ℕ → List Check
   before n =
       ringChecks q m
-      ++ (5 when not (eqb n (q * q * q)) || wrongLength (q * q * q) w || wrongLength (q * q) f || ltb (length s) spaceBytes)
+      ++ (5 when not (eqb n (q * q * q)) || wrongLength (q * q * q) w || wrongLength flags f || ltb (length s) spaceBytes)
       ∷ []
 
   symbols : 0 ≡ first (before (length y)) → All (IsSymbol q) a
@@ -96,7 +96,8 @@ module _ (q m : ℕ) {y a z : List ℕ} (h : Added (RingWord q m) q y a z) (w f 
       let p = ring-passed q m _ e .0 in
       subst (All (IsSymbol q)) (h .code .2) (word-ring q m (p .size) (p .order) (h .code .1) .symbols)
 
-  pub added-checks : first (wordChecks q m z w f s ++ ds) ≡ first (wordChecks q m y w f s ++ ds)
+  pub added-checks : first (ringChecks q m ++ receivedChecks q flags z w f s ++ ds)
+      ≡ first (ringChecks q m ++ receivedChecks q flags y w f s ++ ds)
   added-checks = rw (h .sum)
       (ap (λ (n : ℕ). first (before n ++ (7 when someOutsideField q (add (gf q) y a)) ∷ ds)) (length-sum q y a (h .sized))
       ∙ same-behind (before (length y)) _ ((7 when someOutsideField q y) ∷ ds) tt

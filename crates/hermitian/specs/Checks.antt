@@ -2,7 +2,7 @@
 -- symbols, q² flags, and working space as in 5.'
 
 --   badSize q             the test of number 10; badOrder q m, that of 11; ringChecks q m, 10, 11 and 18
---   encodeChecks, readChecks, decodeChecks    those of the calls; wordChecks, 10, 11, 18, 5 and 7 of decoding
+--   encodeChecks, readChecks, decodeChecks    those of the calls; receivedChecks, 5 and 7 of decoding
 --   lostChecks            those of a decoding with lost sectors: 16, 17 and 8 are those of the array
 use mathlib.Core.Bool.{Bool, not, _||_}
 use mathlib.Core.List.{List, [], _∷_, _++_}
@@ -38,14 +38,15 @@ encodeChecks q m f w = ringChecks q m ++ bufferChecks q m f w f
 abbrev pub readChecks : ℕ → ℕ → List ℕ → List ℕ → List Check
 readChecks q m w f = ringChecks q m ++ bufferChecks q m f w w
 
-abbrev pub wordChecks : ℕ → ℕ → List ℕ → List ℕ → List ℕ → List ℕ → List Check
-wordChecks q m y w f s = ringChecks q m
-    ++ (5 when wrongLength (q * q * q) y || wrongLength (q * q * q) w || wrongLength (q * q) f || ltb (length s) spaceBytes)
+-- 5 and 7 of a decoding, where there are to be n flags
+abbrev pub receivedChecks : (q n : ℕ) → List ℕ → List ℕ → List ℕ → List ℕ → List Check
+receivedChecks q n y w f s =
+    (5 when wrongLength (q * q * q) y || wrongLength (q * q * q) w || wrongLength n f || ltb (length s) spaceBytes)
     ∷ (7 when someOutsideField q y) ∷ []
 
 abbrev pub decodeChecks : ℕ → ℕ → ℕ → List ℕ → List ℕ → List ℕ → List ℕ → List Check
-decodeChecks q m τ y w f s = wordChecks q m y w f s ++ (8 when ltb (jointLimit (ringCode q m)) τ) ∷ []
+decodeChecks q m τ y w f s = ringChecks q m ++ receivedChecks q (q * q) y w f s ++ (8 when ltb (jointLimit (ringCode q m)) τ) ∷ []
 
 -- 02, 2026-03: 'Rings take lost sectors the same way.'
 abbrev pub lostChecks : ℕ → ℕ → ℕ → List ℕ → List ℕ → List ℕ → List ℕ → List ℕ → List Check
-lostChecks q m τ L y w f s = wordChecks q m y w f s ++ remainingChecks (ringCode q m) τ L
+lostChecks q m τ L y w f s = ringChecks q m ++ receivedChecks q (q * q) y w f s ++ remainingChecks (ringCode q m) τ L

@@ -1,65 +1,27 @@
--- What the user asks of the calls on rings, as theorems about their promises alone.
+-- What the user asks of encoding and reading a ring, as theorems about their promises alone: left is what the call leaves.
 --
--- Encoding and reading: left is what the call leaves.
 --   encode-done, encode-word        encoding is done exactly when no check applies, and then leaves exactly the message's word
 --   encode-refused                  otherwise it answers the first check's number, and leaves the buffer as lent
 --   read-done, read-message         reading is done exactly when no check applies and the ring is a word, with its message
 --   read-refused                    otherwise it answers the first check's number, or 9, and leaves the buffer as lent
 --   read-written                    reading what encoding wrote gives the message back
---
--- 'Nothing by halves', of decoding: l is what it leaves.
---   refused-exactly     it is refused exactly when a check applies
---   refused-leaves      then its number is that of the first that does, of 10, 11, 5, 7 and 8, and word, flags and working
---                       space are as lent
---   as-lent             unless the ending is 'corrected', word and flags are as lent
---   space-cleared       unless it is refused, the first 49,152 bytes of the working space are zero, those beyond as lent
---
--- What the endings mean for words of H(m).
---   corrected-nearest   'corrected' leaves a word that differs from the received ring in exactly as many sectors as the detail
---                       says, at most τ, where every other word differs in more; the flags are those of its wrong sectors
---   none-far            'none': no word is within τ sectors
---   safe-exactly        at the safe limit or below: 'corrected' exactly when some word is within τ sectors
---   safe-otherwise      there any ending but 'corrected' and 'refused' means that no word is within τ sectors
---
--- The one number for the C caller.
---   detail-small        the detail is below 256, so that the number tells the ending and the detail
---
--- Shut out by name.
---   array-returned      P10: a decoder that returns the array instead of the word
 -- Assumes nothing.
-use mathlib.Core.Path.{_≡_, refl, sym, ap, _∙_, subst, fun-ext}
-use mathlib.Core.Logic.{_↔_, _⊎_, inl, inr, ⊎-elim}
-use mathlib.Core.Bool.{true, false}
-use mathlib.Core.List.{List, [], _∷_, map}
-use Prim.Native.Nat.{ℕ, suc, _*_, _≤_, _<_}
-use native.Mathlib.Omega.{arith}
-use lib.ListN.{length, getD}
-use Rattle.refusal.specs.Refusal.{Check, _when_, first, isIn}
-use Rattle.refusal.specs.Meaning.{detailOf}
-use Rattle.poly.proofs.Roots.{Mem}
-use Rattle.codes.specs.Code.{Code, IsMessage, total, differs, flagsFrom, safeLimit}
-use Rattle.codes.specs.Lost.{core, right, twosAt, wrongAmong, flagsLost}
-use Rattle.codes.specs.Near.{Nearest, Near, Far}
-use Rattle.codes.specs.Checks.{spaceBytes}
-use Rattle.codes.proofs.Flags.{flags-length}
-use Rattle.codes.proofs.Lost.{core-none}
+use mathlib.Core.Path.{_≡_, refl, sym, _∙_}
+use mathlib.Core.Logic.{_↔_, _⊎_}
+use mathlib.Core.List.{List}
+use Prim.Native.Nat.{ℕ}
+use lib.ListN.{length}
+use Rattle.refusal.specs.Refusal.{first}
+use Rattle.codes.specs.Code.{IsMessage}
 use Rattle.mark.specs.Promises.{Left, meaning, done}
 use Rattle.mark.specs.declared.Outcome.the-variants.{Done}
 use Rattle.mark.specs.declared.Outcome.the-variants as Mark
 use Rattle.mark.proofs.Promised as mark
-use Rattle.ending.specs.Endings.{Buffers}
-use Rattle.ending.specs.Endings as Endings
-use Rattle.ending.specs.declared.Ending.the-variants.{Refused, Corrected, Nothing}
-use Rattle.joint.specs.Promises as Joint
-use Rattle.joint.proofs.Halves.{IsRefused, IsCorrected}
-use Rattle.hermitian.specs.Ring.{ringCode, ringWord, RingWord, IsRing, differsIn, sectorFlags, wrongSectors}
-use Rattle.hermitian.specs.Checks.{encodeChecks, readChecks, decodeChecks}
-use Rattle.ring.specs.Promises.{Encodes, Reads, Decodes}
-use Rattle.ring.specs.Lost.{DecodesLost}
+use Rattle.hermitian.specs.Ring.{ringCode, ringWord, RingWord, IsRing}
+use Rattle.hermitian.specs.Checks.{encodeChecks, readChecks}
 use Rattle.hermitian.proofs.Words.{word-ring}
 use Rattle.hermitian.proofs.Passed.{encoding, reads-on}
-use Rattle.ring.proofs.Lost.{none-checks, nothing-lost}
-use Rattle.ring.proofs.LostDemands as lost
+use Rattle.ring.specs.Promises.{Encodes, Reads}
 use Rattle.ring.proofs.Unique.{reads-unique}
 
 module _ (q m : ℕ) (f lent : List ℕ) (x : Left) (h : Encodes q m f lent x) where
@@ -93,107 +55,3 @@ read-written q m f lent w written old x e h =
     let z : first (readChecks q m w old) ≡ 0 = reads-on (p .ring) old w ring (e ∙ p .message .count) in
     reads-unique q m w old x (done f) h
     (mark.finds (readChecks q m w old) (IsMessage (ringCode q m)) (ringWord q m) w old (sym z) (p .message) (sym is))
-
-abbrev numberIn : Check → ℕ
-numberIn (k when b) = k
-
--- the first check that applies is one of the checks
-first-of : (cs : List Check) → (first cs ≡ 0) ⊎ Mem (first cs) (map numberIn cs)
-unfolding first
-first-of [] = inl refl
-first-of ((k when true) ∷ cs) = inr (inl refl)
-first-of ((k when false) ∷ cs) = ⊎-elim inl (λ h. inr (inr h)) (first-of cs)
-
--- with nothing lost all flags are left, and none is 2
-left-all : (i : ℕ) (fs : List ℕ) → right (flagsFrom (λ j. isIn j []) i (length fs)) fs ≡ fs
-unfolding right flagsFrom isIn
-left-all i [] = refl
-left-all i (f ∷ fs) = ap (_∷_ f) (left-all (suc i) fs)
-
-no-twos : (i : ℕ) (fs : List ℕ) → twosAt (flagsFrom (λ j. isIn j []) i (length fs)) fs ≡ fs
-unfolding twosAt flagsFrom isIn
-no-twos i [] = refl
-no-twos i (f ∷ fs) = ap (_∷_ f) (no-twos (suc i) fs)
-
-module _ (q : ℕ) (y v : List ℕ) where
-  sized : length (sectorFlags q y v) ≡ q * q
-  sized = flags-length (differsIn q y v) 0 (q * q)
-
-  all-sectors : wrongAmong (q * q) [] (sectorFlags q y v) ≡ wrongSectors q y v
-  all-sectors = ap total (subst (λ (n : ℕ). right (flagsFrom (λ j. isIn j []) 0 n) (sectorFlags q y v) ≡ sectorFlags q y v) sized
-      (left-all 0 (sectorFlags q y v)))
-
-  all-flags : flagsLost (q * q) [] (sectorFlags q y v) ≡ sectorFlags q y v
-  all-flags = subst (λ (n : ℕ). twosAt (flagsFrom (λ j. isIn j []) 0 n) (sectorFlags q y v) ≡ sectorFlags q y v) sized
-      (no-twos 0 (sectorFlags q y v))
-
--- every theorem is that of the decoding with lost sectors, of which there are none
-module _ (q m τ : ℕ) (y : List ℕ) (lent : Buffers) (space : List ℕ) (l : Joint.Left) (h : Decodes q m τ y lent space l) where
-  abbrev checks : List Check
-  checks = decodeChecks q m τ y (lent .array) (lent .flags) space
-
-  none-lost : DecodesLost [] q m τ y lent space l
-  none-lost = nothing-lost q m τ y lent space l .1 h
-
-  count : (λ (v : List ℕ). wrongAmong (q * q) [] (sectorFlags q y v)) ≡ wrongSectors q y
-  count = fun-ext (all-sectors q y)
-
-  pub refused-exactly : IsRefused l ↔ ¬ (first checks ≡ 0)
-  refused-exactly =
-      subst (λ (n : ℕ). IsRefused l ↔ ¬ (n ≡ 0)) (none-checks q m τ y lent space) (lost.refused-exactly [] q m τ y lent space l none-lost)
-
-  pub refused-leaves : (k : ℕ) → l .ending ≡ Refused k
-      → (k ≡ first checks) × Mem k (10 ∷ 11 ∷ 18 ∷ 5 ∷ 7 ∷ 8 ∷ []) × (l .buffers ≡ lent) × (l .space ≡ space)
-  refused-leaves k e =
-      let (is, some, kept, kept-space) = lost.refused-leaves [] q m τ y lent space l none-lost k e in
-      let same : k ≡ first checks = is ∙ none-checks q m τ y lent space in
-      let one : Mem (first checks) (10 ∷ 11 ∷ 18 ∷ 5 ∷ 7 ∷ 8 ∷ []) =
-      ⊎-elim (λ z. absurd (omega arith)) (λ i. i) (first-of checks) in
-      (same, rw same one, kept, kept-space)
-
-  pub as-lent : ¬ IsCorrected l → l .buffers ≡ lent
-  as-lent = lost.as-lent [] q m τ y lent space l none-lost
-
-  pub space-cleared : ¬ IsRefused l
-      → ((i : ℕ) → i < spaceBytes → getD (l .space) i 0 ≡ 0) × ((i : ℕ) → spaceBytes ≤ i → getD (l .space) i 0 ≡ getD space i 0)
-  space-cleared = lost.space-cleared [] q m τ y lent space l none-lost
-
-  pub corrected-nearest : (w : ℕ) → l .ending ≡ Corrected w
-      → Nearest (RingWord q m) (wrongSectors q y) τ w (l .buffers .array)
-      × (l .buffers .flags ≡ sectorFlags q y (l .buffers .array))
-  corrected-nearest w e = (
-    subst (λ (n : List ℕ → ℕ). Nearest (RingWord q m) n τ w (l .buffers .array)) count
-        (lost.corrected-nearest [] q m τ y lent space l none-lost w e),
-    lost.corrected-flags [] q m τ y lent space l none-lost w e ∙ all-flags q y (l .buffers .array),
-  )
-
-  pub none-far : l .ending ≡ Nothing → Far (RingWord q m) (wrongSectors q y) τ
-  none-far e = subst (λ (n : List ℕ → ℕ). Far (RingWord q m) n τ) count (lost.none-far [] q m τ y lent space l none-lost e)
-
-  module _ (safe : τ ≤ safeLimit (ringCode q m)) (not : ¬ IsRefused l) where
-    safe-rest : τ ≤ safeLimit (core (ringCode q m) [])
-    safe-rest = subst (λ (c : Code). τ ≤ safeLimit c) (sym (core-none (ringCode q m))) safe
-
-    pub safe-exactly : IsCorrected l ↔ Near (RingWord q m) (wrongSectors q y) τ
-    safe-exactly = subst (λ (n : List ℕ → ℕ). IsCorrected l ↔ Near (RingWord q m) n τ) count
-        (lost.safe-exactly [] q m τ y lent space l none-lost safe-rest not)
-
-    -- 'At the safe limit or below, any ending but "corrected" and "refused" means that no code array is within τ columns.'
-    pub safe-otherwise : ¬ IsCorrected l → Far (RingWord q m) (wrongSectors q y) τ
-    safe-otherwise n = subst (λ (n : List ℕ → ℕ). Far (RingWord q m) n τ) count
-        (lost.safe-otherwise [] q m τ y lent space l none-lost safe-rest not n)
-
-  pub detail-small : detailOf (Endings.meaning (l .ending)) < 256
-  detail-small = lost.detail-small [] q m τ y lent space l none-lost
-
--- 'P10: H(3), f=y: 0 1 2 3 2 3 2 3.' The rows of its array are 0 0 0 0 and 1 1 1 1.
-module _ (lent : Buffers) (space f s : List ℕ) where
-  abbrev word : List ℕ
-  word = 0 ∷ 1 ∷ 2 ∷ 3 ∷ 2 ∷ 3 ∷ 2 ∷ 3 ∷ []
-
-  abbrev array-left : Joint.Left
-  array-left = Joint.left (Corrected 0) (Joint.buffers (0 ∷ 0 ∷ 0 ∷ 0 ∷ 1 ∷ 1 ∷ 1 ∷ 1 ∷ []) f) s
-
-  pub array-returned : ¬ Decodes 2 3 0 word lent space array-left
-  unfolding differs flagsFrom total
-  array-returned h = let z : _≡_ {A = ℕ} 4 0 = corrected-nearest 2 3 0 word lent space array-left h 0 refl .0 .wrong in omega arith

@@ -31,7 +31,7 @@ use Rattle.rows.proofs.Symbols.{symbols-whole}
 use Rattle.codes.proofs.Parts.{all-drop}
 use Rattle.hermitian.specs.Ring.{sector, column, ringOf}
 use Rattle.ring.specs.Working.{RowGiven, SectorsGiven, columnAdded, rowAdded}
-use Rattle.ring.proofs.Ordinates.{all-y}
+use Rattle.ring_checks.proofs.Ordinates.{all-y}
 use Rattle.hermitian.proofs.Numbers.{all-flat, map-at, length-column, column-at, part-fits, part-flat}
 use Rattle.hermitian.proofs.Sizes.{sides, sectors}
 use Rattle.hermitian.proofs.Rings.{ring-field, symbols-column, sector-ring, is-ring}

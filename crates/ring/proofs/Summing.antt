@@ -28,7 +28,7 @@ use Rattle.hermitian.proofs.Sizes.{sides}
 use Rattle.hermitian.proofs.Rings.{ring-field}
 use Rattle.hermitian.proofs.Kernel.{sumTo, powered, sum-cong, powered-in, Summed}
 use Rattle.ring.specs.Working.{SectorsGiven, SumGiven, Holds, sectorSum, rowSummed}
-use Rattle.ring.proofs.Ordinates.{all-y, y-at}
+use Rattle.ring_checks.proofs.Ordinates.{all-y, y-at}
 
 pub record Going (q : ℕ) (ys w v a : List ℕ) (j : ℕ) : Type 0 where
   pub room : q * q * q ≤ length v

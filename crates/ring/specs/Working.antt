@@ -1,6 +1,5 @@
 -- What the functions inside ask and compute. No promise cites these.
 --
---   Row q m j                 H(m) has a row j
 --   sectorSum q v x           the sum of the symbols of sector x of v
 --   rowSummed q v at a        a when these sums are written as its row from `at` on
 --   columnAdded q a at s i    the i-th symbol of s, and of the row in a from `at` on that of its sector's column
@@ -12,7 +11,6 @@
 --   RowGiven q a at s         a row in a from `at` on, and q³ symbols s
 --   RingGiven q w             q³ symbols
 --   ArrayGiven q a w          q³ symbols, and as much room for their ring
---   AnswerGiven e q a w       the same on `corrected`
 use mathlib.Core.Path.{_≡_}
 use mathlib.Core.Bool.{false}
 use mathlib.Core.List.{List, flatMap}
@@ -21,16 +19,9 @@ use lib.ListN.{length, getD}
 use Rattle.patch.specs.Patch.{patch}
 use Rattle.field.specs.Symbols.{plus}
 use Rattle.field.specs.Working.Tables.{IsTable}
-use Rattle.ending.specs.declared.Ending.{Ending}
-use Rattle.ending.specs.declared.Ending.the-variants.{Corrected}
 use Rattle.hermitian.specs.Ring.{numbers, sector, IsRing}
-use Rattle.hermitian.specs.Checks.{badSize, badOrder}
+use Rattle.hermitian.specs.Checks.{badSize}
 use Rattle.hermitian.proofs.Kernel.{sumTo}
-
-pub record Row (q m j : ℕ) : Type 0 where
-  pub size : badSize q ≡ false
-  pub order : badOrder q m ≡ false
-  pub below : j < q
 
 abbrev pub sectorSum : ℕ → List ℕ → ℕ → ℕ
 sectorSum q v x = sumTo (λ i. getD v (x * q + i) 0) q
@@ -76,9 +67,4 @@ pub record RingGiven (q : ℕ) (w : List ℕ) : Type 0 where
 pub record ArrayGiven (q : ℕ) (a w : List ℕ) : Type 0 where
   pub size : badSize q ≡ false
   pub array : IsRing q a
-  pub room : length w ≡ q * q * q
-
-pub record AnswerGiven (e : Ending) (q : ℕ) (a w : List ℕ) : Type 0 where
-  pub size : badSize q ≡ false
-  pub array : (t : ℕ) → e ≡ Corrected t → IsRing q a
   pub room : length w ≡ q * q * q

@@ -1,4 +1,4 @@
-// From an array to its ring, and back.
+// For the crates above: from an array to its ring, and back.
 ghost use mathlib.Core.Path.{_≡_};
 ghost use mathlib.Core.Bool.{false};
 ghost use Prim.Native.Nat.{_*_, _/_};
@@ -8,9 +8,9 @@ ghost use Rattle.hermitian.specs.Checks.{badSize};
 ghost use Rattle.hermitian.proofs.Kernel.{Summed};
 ghost use Rattle.ring.specs.Working.{ArrayGiven, RingGiven, RowGiven, SectorGiven, SectorsGiven, SumGiven, Holds};
 ghost use Rattle.ring.specs.Working.{rowAdded, rowSummed, sectorSum};
-use crate::shape;
 use field::tables;
 use field::tables::Table;
+use ring_checks::shape;
 
 // The sum of the symbols of sector x.
 fn sector_sum(q: u32, v: &[u8], x: usize) -> u8
@@ -92,7 +92,7 @@ fn carry_rows(table: &Table, q: u32, ys: &[u8], array: &[u8], ring: &mut [u8])
 }
 
 // The ring of an array.
-pub(crate) fn to_ring(q: u32, array: &[u8], ring: &mut [u8])
+pub fn to_ring(q: u32, array: &[u8], ring: &mut [u8])
     requires { ⌜ ArrayGiven q (now array) (now ring) ⌝ }
     ensures { λ _. ⌜ now (ring .exit) ≡ ringOf q (now (array .entry)) ⌝ }
 {
@@ -102,7 +102,7 @@ pub(crate) fn to_ring(q: u32, array: &[u8], ring: &mut [u8])
 }
 
 // The array of a ring, of which as many symbols count as the ring has.
-pub(crate) fn array_of(q: u32, ring: &[u8]) -> [u8; 64]
+pub fn array_of(q: u32, ring: &[u8]) -> [u8; 64]
     requires { ⌜ RingGiven q (now ring) ⌝ }
     ensures { λ r. ⌜ ArrayOf q (now (ring .entry)) (take (length (now (ring .entry))) r) ⌝ }
 {

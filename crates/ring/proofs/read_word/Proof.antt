@@ -4,7 +4,7 @@ use native.Mathlib.Omega.{arith}
 use lib.ListN.{length, take}
 use Rattle.mark.specs.Promises.{left}
 use Rattle.hermitian.proofs.Passed.{PassedReading, reading}
-use Rattle.ring.proofs.Lent.{Front, lent, Shape, shape, array-front}
+use Rattle.ring_checks.proofs.Lent.{Front, lent, Shape, shape, array-front}
 use Rattle.ring.proofs.Promised.{read-by}
 use borrow.Author.Needs.{needs}
 use Rattle.ring.proofs.read_word.Statement.{statement}

@@ -10,7 +10,7 @@ use Rattle.codes.specs.Code.{encoded}
 use Rattle.mark.specs.Promises.{left}
 use Rattle.hermitian.specs.Ring.{ringCode, ringOf}
 use Rattle.hermitian.proofs.Passed.{PassedEncoding, encoding}
-use Rattle.ring.proofs.Lent.{Front, lent, Shape, shape, blank, given-back}
+use Rattle.ring_checks.proofs.Lent.{Front, lent, Shape, shape, blank, given-back}
 use Rattle.ring.proofs.Promised.{encoded-by, encoded-array, written}
 use borrow.Author.Needs.{needs}
 use Rattle.ring.proofs.write_word.Statement.{statement}

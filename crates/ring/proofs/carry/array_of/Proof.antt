@@ -13,7 +13,7 @@ use Rattle.hermitian.specs.Ring.{IsRing}
 use Rattle.hermitian.proofs.Sizes.{Sides, sides, tested}
 use Rattle.hermitian.proofs.Kernel.{summed-array}
 use Rattle.ring.specs.Working.{SectorsGiven, Holds}
-use Rattle.ring.proofs.Ordinates.{y-room}
+use Rattle.ring_checks.proofs.Ordinates.{y-room}
 use Rattle.ring.proofs.Summing.{cut-summed}
 use borrow.Author.Needs.{needs}
 use Rattle.ring.proofs.carry.array_of.Statement.{statement}

@@ -8,7 +8,7 @@ use native.Mathlib.Omega.{arith}
 use lib.Pow.{pow-pos}
 use Rattle.hermitian.proofs.Sizes.{sides, tested}
 use Rattle.ring.specs.Working.{RowGiven}
-use Rattle.ring.proofs.Ordinates.{all-y}
+use Rattle.ring_checks.proofs.Ordinates.{all-y}
 use Rattle.ring.proofs.Horner.{Raised, row-given, raised-none, Added, added, added-in, raised, added-whole, ordinates-in}
 use borrow.Author.Needs.{needs}
 use Rattle.ring.proofs.carry.carry_rows.Statement.{statement}

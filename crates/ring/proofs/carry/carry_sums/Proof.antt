@@ -8,7 +8,7 @@ use native.Mathlib.Omega.{arith}
 use lib.ListN.{length}
 use lib.Pow.{pow-pos}
 use Rattle.hermitian.proofs.Sizes.{sides, tested}
-use Rattle.ring.proofs.Ordinates.{all-y}
+use Rattle.ring_checks.proofs.Ordinates.{all-y}
 use Rattle.ring.proofs.Horner.{ordinates-in}
 use Rattle.ring.proofs.Summing.{Going, row-room, sum-given, multiplied-in, going-start, going-row, going-end}
 use borrow.Author.Needs.{needs}

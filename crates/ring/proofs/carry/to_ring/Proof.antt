@@ -4,7 +4,7 @@ use mathlib.Core.Path.{sym}
 use native.Mathlib.Omega.{arith}
 use lib.Seq.{length-take-le}
 use Rattle.hermitian.proofs.Sizes.{tested}
-use Rattle.ring.proofs.Ordinates.{y-room}
+use Rattle.ring_checks.proofs.Ordinates.{y-room}
 use borrow.Author.Needs.{needs}
 use Rattle.ring.proofs.carry.to_ring.Statement.{statement}
 use Rattle.ring.proofs.carry.to_ring.Tie as tie

@@ -1,0 +1,2 @@
+pub mod Ordinates
+pub mod Lent
