@@ -76,10 +76,23 @@
  * 8, the first that applies, which refuses the tray whole with answers, arrays, flags and working space as they were. With no mark
  * answers still needs a pointer that is not null, aligned for uint32_t.
  *
+ * PITS. Decoding a ring by its wrong symbols counts symbols, in whatever sectors they are, and a limit of it counts symbols too. With
+ * g = q·(q − 1)/2 the limit may go up to (q³ − m − 1 − g)/2 rounded down, which must not be below zero (for q = 4 and m = 58 or 59, and
+ * only there, it is): for q = 4 and m = 37 that is 10. Up to it no two words of H(m) are within the limit of one ring, so there are two
+ * endings alone. There are q³ flags, and the working space is as in decoding:
+ *
+ *   code              detail                      answer and flags
+ *   GREN_REFUSED 0    number of the refusal       as they were; the working space too
+ *   GREN_CORRECTED 1  number of wrong symbols     written: the only word within the limit, and a flag a symbol, 1 where it was wrong
+ *   GREN_NONE 2       0                           as they were: no word is within the limit
+ *
+ * Many wrong symbols in few sectors are for decoding by sectors, few in many sectors for this one: neither corrects all that the
+ * other does.
+ *
  * VERSIONS. From version 2 on the four calls on marks take factors and factor_count right after points and columns. A caller of the
  * version before, which did not name itself, hands in as many bytes of 1 as there are columns, is compiled anew, and gets the answers
  * that it got before. Version 3 has gren_mark_decode_powers and gren_tray_decode
- * besides, and changes nothing for a caller of version 2.
+ * besides, and version 4 gren_ring_decode_pits; they change nothing for a caller of version 2.
  */
 #ifndef GRENHYRNA_H
 #define GRENHYRNA_H
@@ -87,7 +100,7 @@
 #include <stddef.h>
 #include <stdint.h>
 
-#define GREN_VERSION 3 /* of these declarations */
+#define GREN_VERSION 4 /* of these declarations */
 
 #ifdef __cplusplus
 extern "C" {
@@ -124,13 +137,14 @@ enum { GREN_RIGHT = 0, GREN_WRONG = 1, GREN_LOST = 2 };
  * 7, then reading 9 and decoding 8; rings check 10, 11, 18, 5, 7, then reading 9 and decoding 8. With lost columns 16 and 17 come
  * after 7 and before 8; 4, 18, 5, 6, 23 and 7 read all columns, lost or not, and 8 the remaining ones. Decoding by powers checks 1, 3,
  * 20, 4, 18, 5, 6, 23, 7 and 8; 4 and 18 read k and the largest length s·(k − 1) + 1, and 5 the lengths of one row. Trays
- * check 1, 2, 3, 4, 18, 15, 5, 6, 23, 8, and then each mark's own 7. */
+ * check 1, 2, 3, 4, 18, 15, 5, 6, 23, 8, and then each mark's own 7. Decoding a ring by its wrong symbols checks 10, 11, 18, 5, 7 and
+ * 19. */
 enum {
     GREN_BAD_DEGREE = 1,     /* degree is not 2, 4 or 8 */
     GREN_BAD_ROWS = 2,       /* count of the lengths is not 1 to 4 */
     GREN_BAD_COLUMNS = 3,    /* count of the points is not 1 to 96 */
     GREN_BAD_LENGTH = 4,     /* some k is not 1 to the number of columns */
-    GREN_BAD_BUFFER = 5,     /* a buffer's length: factors columns, message K, array rows·columns (ring q³), flags columns (ring q²),
+    GREN_BAD_BUFFER = 5,     /* a buffer's length: factors columns, message K, array rows·columns (ring q³), flags columns (ring q², by symbols q³),
                                 space at least GREN_SPACE */
     GREN_BAD_POINT = 6,      /* a point is outside the field or stood earlier in the list */
     GREN_BAD_SYMBOL = 7,     /* a symbol is outside the field */
@@ -142,6 +156,7 @@ enum {
     GREN_BAD_LOST = 16,      /* a lost column is not below the number of columns or is named twice */
     GREN_TOO_MANY_LOST = 17, /* fewer remaining columns than the largest k */
     GREN_NO_CHECKS = 18,     /* some k equals the number of columns; of a ring, of sectors */
+    GREN_BAD_PITS = 19,      /* by wrong symbols: the limit is above (q³ − m − 1 − g)/2, or that is below zero */
     GREN_BAD_POWERS = 20,    /* the number of powers is not 1 to 4 */
     GREN_BAD_FACTOR = 23     /* a factor is outside the field or zero */
 };
@@ -195,6 +210,11 @@ uint32_t gren_ring_decode(uint32_t q, uint32_t m, uint32_t limit, const uint8_t 
 uint32_t gren_ring_decode_lost(uint32_t q, uint32_t m, uint32_t limit, const uint8_t *lost, size_t lost_count,
                                const uint8_t *received, size_t received_length, uint8_t *answer, size_t answer_length,
                                uint8_t *flags, size_t flags_length, uint8_t *space, size_t space_length);
+
+/* Decodes a received ring by its wrong symbols, wherever they are scattered: q³ flags, one a symbol. See PITS above. */
+uint32_t gren_ring_decode_pits(uint32_t q, uint32_t m, uint32_t limit, const uint8_t *received, size_t received_length,
+                               uint8_t *answer, size_t answer_length, uint8_t *flags, size_t flags_length, uint8_t *space,
+                               size_t space_length);
 
 #ifdef __cplusplus
 }

@@ -16,7 +16,7 @@
 struct test {
     const char *name;
     char kind; /* d: decode, e: encode, r: read, h: decode a ring; D and H: with lost columns; f: decode, with factors;
-                  p: one row, by powers; t: decode a tray of 64 marks, beside 64 calls */
+                  p: one row, by powers; t: decode a tray of 64 marks, beside 64 calls; s: decode a ring by its wrong symbols */
     unsigned degree, columns, rows, lengths[4], wrong, lost;
 };
 
@@ -33,6 +33,8 @@ static const struct test tests[] = {
     {"ring H(37), 0 wrong sectors", 'h', 4, 16, 4, {10, 9, 7, 6}, 0, 0},
     {"ring H(37), 3 wrong sectors", 'h', 4, 16, 4, {10, 9, 7, 6}, 3, 0},
     {"ring H(37), 6 wrong sectors", 'h', 4, 16, 4, {10, 9, 7, 6}, 6, 0},
+    {"ring H(37), by symbols, 0 wrong", 's', 4, 16, 4, {10, 9, 7, 6}, 0, 0},
+    {"ring H(37), by symbols, 10 wrong", 's', 4, 16, 4, {10, 9, 7, 6}, 10, 0},
     {"encode GF(256) n 96 k 64 x4", 'e', 8, 96, 4, {64, 64, 64, 64}, 0, 0},
     {"read GF(256) n 96 k 64 x4", 'r', 8, 96, 4, {64, 64, 64, 64}, 0, 0},
     {"GF(256) n 96 k 64 x4, 16 lost, 12 wrong", 'D', 8, 96, 4, {64, 64, 64, 64}, 12, 16},
@@ -67,8 +69,13 @@ static double seconds(void)
     return (double)now.tv_sec + (double)now.tv_nsec / 1e9;
 }
 
+/* A column, and the sector of that number; of a ring that is decoded by its wrong symbols, one symbol of it. */
 static void damage(size_t column)
 {
+    if (t.kind == 's') {
+        ring[4 * column + column % 4] ^= (uint8_t)(1 + below(15));
+        return;
+    }
     for (size_t l = 0; l < t.rows; l++) {
         array[l * t.columns + column] ^= (uint8_t)(1 + below((1u << t.degree) - 1));
         ring[4 * column % 64 + l] ^= (uint8_t)(1 + below(15));
@@ -112,6 +119,9 @@ static int run(unsigned long count)
         else if (t.kind == 'h')
             got = own ? gren_ring_decode(4, 37, limit, ring, 64, answer, 64, flags, 16, space, sizeof space)
                       : plain_decode(lengths, t.rows, points, t.columns, limit, array, answer, flags);
+        else if (t.kind == 's')
+            got = own ? gren_ring_decode_pits(4, 37, 10, ring, 64, answer, 64, flags, 64, space, sizeof space)
+                      : plain_decode_pits(37, 10, ring, answer, flags);
         else if (t.kind == 'e')
             got = own ? gren_mark_encode(t.degree, lengths, t.rows, points, t.columns, factors, t.columns, message, total, answer,
                                          symbols)
@@ -160,7 +170,9 @@ int main(int argc, char **argv)
     plain_field(t.degree);
     plain_encode(lengths, t.kind == 'p' ? 1 : t.rows, points, t.columns, message, array);
     plain_multiply(t.rows, t.columns, factors, array);
-    if (t.kind == 'h' || t.kind == 'H')
+    if (t.kind == 's')
+        plain_ring_points();
+    if (t.kind == 'h' || t.kind == 'H' || t.kind == 's')
         gren_ring_encode(4, 37, message, total, ring, 64);
     for (size_t w = 0; w < t.wrong; w++)
         damage(w * t.columns / t.wrong + (t.lost > 0)); /* beside the lost columns */

@@ -241,3 +241,118 @@ uint32_t plain_decode_powers(const uint8_t *lengths, size_t powers, const uint8_
         ys[i] = product(ys[i - columns], received[i % columns]);
     return plain_decode(lengths, powers, points, columns, limit, ys, answer, flags);
 }
+
+enum { SIDE = 4, RING = 64, PIT_LINES = 2 * SIDE };
+
+/* Pairs of functions (L, N), a line each: the values of N + received · L in the ring's points, and then those of L. Where L is y^j and
+ * N zero at the start, the lead is 2 · (5j + m) + 1; where N is y^j and L zero, 2 · 5j. */
+static uint8_t pairs[PIT_LINES][2 * RING];
+static size_t pair_leads[PIT_LINES];
+static uint8_t abscissas[RING], ordinates[RING];
+
+void plain_ring_points(void)
+{
+    size_t p = 0;
+    for (unsigned x = 0; x < SIDE * SIDE; x++)
+        for (unsigned y = 0; y < SIDE * SIDE; y++) {
+            uint8_t y2 = product((uint8_t)y, (uint8_t)y), x2 = product((uint8_t)x, (uint8_t)x);
+            if ((product(y2, y2) ^ y) == product(product(x2, x2), (uint8_t)x)) {
+                abscissas[p] = (uint8_t)x;
+                ordinates[p++] = (uint8_t)y;
+            }
+        }
+}
+
+/* The pairs over the points with use[p], from the start. */
+static void pair_functions(uint32_t m, const uint8_t *received, const uint8_t *use)
+{
+    uint8_t power[RING];
+    memset(pairs, 0, sizeof pairs);
+    memset(power, 1, sizeof power);
+    for (size_t j = 0; j < SIDE; j++) {
+        for (size_t p = 0; p < RING; p++) {
+            pairs[j][p] = product(received[p], power[p]);
+            pairs[j][RING + p] = pairs[SIDE + j][p] = power[p];
+            power[p] = product(power[p], ordinates[p]);
+        }
+        pair_leads[j] = 2 * (5 * j + m) + 1;
+        pair_leads[SIDE + j] = 2 * 5 * j;
+    }
+    for (size_t i = 0; i < RING; i++) {
+        size_t best = PIT_LINES;
+        for (size_t j = 0; j < PIT_LINES && use[i]; j++)
+            if (pairs[j][i] && (best == PIT_LINES || pair_leads[j] < pair_leads[best]))
+                best = j;
+        if (best == PIT_LINES)
+            continue;
+        for (size_t j = 0; j < PIT_LINES; j++) {
+            if (j == best || !pairs[j][i])
+                continue;
+            const uint8_t *row = powers + exponents[quotient(pairs[j][i], pairs[best][i])];
+            for (size_t k = 0; k < 2 * RING; k++)
+                if (pairs[best][k])
+                    pairs[j][k] ^= row[exponents[pairs[best][k]]];
+        }
+        for (size_t k = 0; k < 2 * RING; k++)
+            pairs[best][k] = product(pairs[best][k], abscissas[k % RING] ^ abscissas[i]);
+        pair_leads[best] += 2 * SIDE;
+    }
+}
+
+/* Whether a ring is a word of H(m): in each sector the polynomial in y that has its values, and of these the rows. */
+static int is_word(uint32_t m, const uint8_t *ring)
+{
+    uint8_t rows[SIDE][SIDE * SIDE];
+    for (size_t x = 0; x < SIDE * SIDE; x++) {
+        uint8_t u[SIDE], p[SIDE] = {0};
+        memcpy(u, ring + SIDE * x, SIDE);
+        reduce(ordinates + SIDE * x, SIDE, SIDE, u);
+        for (size_t j = SIDE; j-- > 0;) {
+            for (size_t i = SIDE - 1; i > 0; i--)
+                p[i] = p[i - 1] ^ product(ordinates[SIDE * x + j], p[i]);
+            p[0] = product(ordinates[SIDE * x + j], p[0]) ^ u[j];
+        }
+        for (size_t j = 0; j < SIDE; j++)
+            rows[j][x] = p[j];
+    }
+    for (size_t j = 0; j < SIDE; j++) {
+        uint8_t xs[SIDE * SIDE];
+        size_t k = (m - 5 * j) / SIDE + 1;
+        for (size_t x = 0; x < SIDE * SIDE; x++)
+            xs[x] = (uint8_t)x;
+        reduce(xs, SIDE * SIDE, k, rows[j]);
+        for (size_t x = k; x < SIDE * SIDE; x++)
+            if (rows[j][x])
+                return 0;
+    }
+    return 1;
+}
+
+uint32_t plain_decode_pits(uint32_t m, uint32_t limit, const uint8_t *received, uint8_t *answer, uint8_t *flags)
+{
+    uint8_t use[RING], found[RING];
+    size_t best = 0;
+    uint32_t wrong = 0;
+    if (is_word(m, received)) {
+        memcpy(answer, received, RING);
+        memset(flags, 0, RING);
+        return 256;
+    }
+    memset(use, 1, sizeof use);
+    pair_functions(m, received, use);
+    for (size_t j = 1; j < PIT_LINES; j++)
+        if (pair_leads[j] < pair_leads[best])
+            best = j;
+    memcpy(use, pairs[best] + RING, RING);
+    pair_functions(m, received, use);
+    for (size_t p = 0; p < RING; p++) {
+        found[p] = received[p] ^ pairs[0][p];
+        wrong += pairs[0][p] != 0;
+    }
+    if (wrong > limit || !is_word(m, found))
+        return 256 * 2;
+    for (size_t p = 0; p < RING; p++)
+        flags[p] = pairs[0][p] != 0;
+    memcpy(answer, found, RING);
+    return 256 + wrong;
+}

@@ -18,4 +18,7 @@ uint32_t plain_decode_factors(const uint8_t *lengths, size_t rows, const uint8_t
 /* One row by its powers, as many as there are lengths; its answer is the first row of what is written. */
 uint32_t plain_decode_powers(const uint8_t *lengths, size_t powers, const uint8_t *points, size_t columns, uint32_t limit,
                              const uint8_t *received, uint8_t *answer, uint8_t *flags);
+/* A ring of H(m) over GF(16) by its wrong symbols; the ring's points are worked out before, once. */
+void plain_ring_points(void);
+uint32_t plain_decode_pits(uint32_t m, uint32_t limit, const uint8_t *received, uint8_t *answer, uint8_t *flags);
 #endif

@@ -85,8 +85,8 @@ static size_t any_length(size_t right, size_t most)
 }
 
 /* The ways of decoding, and how often each ended how. */
-enum { NO_LIST, WITH_LIST, BY_POWERS, WAYS };
-static const char *const ways[WAYS] = {"with no list", "with lost columns", "by powers"};
+enum { NO_LIST, WITH_LIST, BY_POWERS, BY_SYMBOLS, WAYS };
+static const char *const ways[WAYS] = {"with no list", "with lost columns", "by powers", "by wrong symbols"};
 static unsigned long ends[WAYS][5], refused, refused_for_a_factor, done, trays, trays_refused, marks_ended[5];
 static int on_mark; /* the call is on a mark: rings have no factors */
 
@@ -115,10 +115,11 @@ static int decoded(int way, uint32_t r)
     int ok = code <= GREN_HOLLOW && inside(RESULT) && inside(FLAGS) && only_read();
     if (code == GREN_REFUSED)
         ok &= ((detail >= 1 && detail <= 11 && detail != 9) || detail == 18 || (way == WITH_LIST && (detail == 16 || detail == 17))
-               || (way == BY_POWERS && detail == GREN_BAD_POWERS) || (on_mark && detail == GREN_BAD_FACTOR))
+               || (way == BY_POWERS && detail == GREN_BAD_POWERS) || (way == BY_SYMBOLS && detail == GREN_BAD_PITS)
+               || (on_mark && detail == GREN_BAD_FACTOR))
               && as_lent(SPACE);
     else
-        ok &= space_cleared();
+        ok &= space_cleared() && (way != BY_SYMBOLS || code <= GREN_NONE);
     if (code == GREN_CORRECTED)
         ok &= flagged(detail);
     else
@@ -329,9 +330,12 @@ static int ring(int call)
         return coded(gren_ring_encode(asked, order, y->at, y->length, a->at, a->length));
     if (call == 1)
         return coded(gren_ring_read(asked, order, y->at, y->length, a->at, a->length));
-    lay(FLAGS, any_length(q * q, 300), 256);
+    lay(FLAGS, any_length(call == 4 ? size : q * q, 300), 256);
     lay(SPACE, chance(12) ? below(16 * 4096) : GREN_SPACE + below(100), 256);
     uint32_t limit = any_number(below(8));
+    if (call == 4)
+        return decoded(BY_SYMBOLS, gren_ring_decode_pits(asked, order, limit, y->at, y->length, a->at, a->length, buffers[FLAGS].at,
+                                                         buffers[FLAGS].length, buffers[SPACE].at, buffers[SPACE].length));
     if (call == 2)
         return decoded(NO_LIST, gren_ring_decode(asked, order, limit, y->at, y->length, a->at, a->length, buffers[FLAGS].at,
                                            buffers[FLAGS].length, buffers[SPACE].at, buffers[SPACE].length));
@@ -350,6 +354,8 @@ static int calls(double seconds, unsigned long seed)
         for (int i = 0; i < 100; i++, n++) {
             int call = (int)below(4), by_powers = chance(6), in_trays = !by_powers && chance(12);
             on_mark = by_powers || in_trays || !chance(3);
+            if (!on_mark && chance(4))
+                call = 4; /* a ring by its wrong symbols */
             if (!(by_powers ? row() : in_trays ? tray() : on_mark ? mark(call) : ring(call))) {
                 printf("fuzz: seed %lu, call %lu: a number or a buffer is not as promised\n", seed, n);
                 return 1;

@@ -94,8 +94,9 @@ static void read_argument(void)
 
 static void read_call(void)
 {
-    static const char *const calls[] = {"encode:",      "read:",            "decode:",      "ring encode:", "ring read:",
-                                        "ring decode:", "ring decode lost:", "decode lost:", "decode powers:", NULL};
+    static const char *const calls[] = {"encode:",      "read:",             "decode:",      "ring encode:",   "ring read:",
+                                        "ring decode:", "ring decode lost:", "decode lost:", "decode powers:", "ring decode pits:",
+                                        NULL};
     int factors_given = 0;
     memset(frame, 0, sizeof frame);
     while (calls[frame[0]] && !word(calls[frame[0]]))

@@ -1,6 +1,6 @@
 /* The calls of the comparing program (crates/compared), and what it is to write: the named cases; then frames of random calls, right
  * and wrong ones, over all fields, then such with lost columns, all with factors of one; then such with factors; then rows read by their
- * powers. The answers are the second program's, and in a named case they must be the expected ones.
+ * powers; then rings by their wrong symbols. The answers are the second program's, and in a named case they must be the expected ones.
  *
  *   compared in|out FILE CASES
  */
@@ -8,7 +8,7 @@
 #include "frame.h"
 #include "random.h"
 
-enum { CALLS = 600, LOST_CALLS = 240, FACTOR_CALLS = 240, POWER_CALLS = 240 };
+enum { CALLS = 600, LOST_CALLS = 240, FACTOR_CALLS = 240, POWER_CALLS = 240, PIT_CALLS = 180 };
 
 /* A length that is right but now and then. */
 static size_t spoilt(size_t length)
@@ -236,11 +236,44 @@ static void powers_call(void)
     spoil_factors(columns, size);
 }
 
+/* A ring by its wrong symbols: a word with up to two more of them than the limit, anywhere. */
+static void pits_call(void)
+{
+    unsigned q = chance(2) ? 2 : 4, columns = q * q, size = columns * q, m = columns - 1 + below(size - columns - q + 1);
+    int most = second_pits_limit(q, m);
+    unsigned limit = most < 0 ? 0 : chance(2) ? (unsigned)most : below((unsigned)most + 1);
+    uint8_t ks[4], message[385], word[64];
+    size_t total = 0;
+    second_ring_lengths(q, m, ks);
+    for (unsigned j = 0; j < q; j++)
+        total += ks[j];
+    random_symbols(columns);
+    memcpy(message, frame + SYMBOLS, 385);
+    second_ring_encode(q, m, message, total, word, size);
+    memcpy(frame + SYMBOLS, word, size);
+    for (unsigned wrong = chance(2) ? limit : below(limit + 3); wrong; wrong--)
+        frame[SYMBOLS + below(size)] ^= (uint8_t)(1 + below(columns - 1));
+    if (chance(8))
+        random_symbols(columns);
+    frame[0] = RING_PITS;
+    set_number(1, chance(30) ? below(600) : q);
+    set_number(3, chance(20) ? limit + 1 + below(300) : limit);
+    set_number(5, chance(20) ? below(300) : chance(20) ? size - 1 - below(q) : m);
+    set_number(8, spoilt(size));
+    set_number(10, spoilt(size));
+    frame[12] = (uint8_t)spoilt(size);
+    frame[13] = (uint8_t)(chance(40) ? below(8) : 8 + below(248));
+    if (chance(20))
+        frame[SYMBOLS + below(size)] = (uint8_t)next();
+}
+
 static void random_call(unsigned i)
 {
     static const uint8_t marks[] = {0, 1, 2, MARK_LOST};
     memset(frame, 0, sizeof frame);
-    if (i >= CALLS + LOST_CALLS + FACTOR_CALLS)
+    if (i >= CALLS + LOST_CALLS + FACTOR_CALLS + POWER_CALLS)
+        pits_call();
+    else if (i >= CALLS + LOST_CALLS + FACTOR_CALLS)
         powers_call();
     else if (i >= CALLS + LOST_CALLS)
         mark_call(marks[i % 4], 1);
@@ -282,13 +315,15 @@ int main(int argc, char **argv)
     while (next_case(cases, expected))
         put(to, wants_input, expected);
     state = 0x2545F4914F6CDD1Du;
-    for (unsigned i = 0; i < CALLS + LOST_CALLS + FACTOR_CALLS + POWER_CALLS; i++) {
+    for (unsigned i = 0; i < CALLS + LOST_CALLS + FACTOR_CALLS + POWER_CALLS + PIT_CALLS; i++) {
         if (i == CALLS) /* from here each ending and each refusal comes about, of marks and of rings */
             state = 167 * 0x9E3779B97F4A7C15u;
         if (i == CALLS + LOST_CALLS) /* and from here each of marks with factors, the endings without lost columns and with them */
             state = 4 * 0x9E3779B97F4A7C15u;
         if (i == CALLS + LOST_CALLS + FACTOR_CALLS) /* and from here each of rows read by their powers */
             state = 51 * 0x9E3779B97F4A7C15u;
+        if (i == CALLS + LOST_CALLS + FACTOR_CALLS + POWER_CALLS) /* and from here each of rings by their wrong symbols */
+            state = 1 * 0x9E3779B97F4A7C15u;
         random_call(i);
         put(to, wants_input, NULL);
     }

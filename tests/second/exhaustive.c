@@ -1,9 +1,10 @@
 /* Demand 3 seen to hold by a program that knows nothing of locators: all arrays over GF(4) with few columns and rows, all message
  * lengths, all sets of lost columns and all trial limits, against a search over sets of wrong columns, with factors of one; then
  * smaller arrays with all lists of factors. Then short lists of lost columns and of factors, good and bad, against the checks. A code
- * with a row as long as the mark is refused, whatever is lost. Then all rows, read by their powers, against a search over all codewords.
+ * with a row as long as the mark is refused, whatever is lost. Then all rows, read by their powers, against a search over all codewords,
+ * and rings for q = 2, by their wrong symbols, against all words.
  *
- *   exhaustive [MOST]    arrays of up to MOST symbols (default 8: all with two rows of four)
+ *   exhaustive [MOST [RINGS]]    arrays of up to MOST symbols (default 8: all with two rows of four), and every RINGS-th ring (default 1)
  */
 #define _POSIX_C_SOURCE 200112L
 #include "grenhyrna.h"
@@ -63,12 +64,14 @@ static unsigned size_of(unsigned set)
 }
 
 /* What was tried: arrays with no lost columns and with some, with factors of one and with others; lists that end as corrected, 16, 17,
- * 8 and 18; calls with lists of factors that are done or corrected, 5, 6, 23 and 7; and rows read by their powers, by their endings. */
+ * 8 and 18; calls with lists of factors that are done or corrected, 5, 6, 23 and 7; rows read by their powers, by their endings; and rings
+ * by their wrong symbols that are corrected with none wrong, corrected with one, none, and refused 19. */
 static struct {
-    unsigned long cases[2][2], lists[5], factors[5], rows[5];
+    unsigned long cases[2][2], lists[5], factors[5], rows[5], rings[4];
 } tried;
 
 static size_t most_symbols = 8;
+static unsigned long one_ring_in = 1;
 static unsigned half, list_of_factors; /* the number of the list of factors, and 0 for factors of one */
 
 /* The columns of a set as a list, in an order that depends on `turn`: each order of up to three comes about. */
@@ -393,6 +396,88 @@ static int check_rows(const uint8_t *points)
     return 1;
 }
 
+/* ---- rings by their wrong symbols, q = 2 */
+
+enum { RING = 8, RINGS = 1 << 2 * RING, NO_WORD = RINGS };
+
+/* Of each ring the number of the only word within one symbol of it, and in how many it differs: words of H(m) are far enough apart.
+ * A ring's number has its symbols as digits. */
+static unsigned near_word[RINGS];
+static uint8_t near_wrong[RINGS];
+
+static void ring_of(unsigned number, uint8_t *ring)
+{
+    for (size_t i = 0; i < RING; i++)
+        ring[i] = (uint8_t)(number >> 2 * i & 3);
+}
+
+static unsigned number_of(const uint8_t *ring)
+{
+    unsigned number = 0;
+    for (size_t i = 0; i < RING; i++)
+        number |= (unsigned)ring[i] << 2 * i;
+    return number;
+}
+
+/* Goes through all words of H(m), and through the rings that differ from each in at most `limit` symbols, one at most; answers whether
+ * no ring has two. */
+static int find_near(unsigned m, unsigned limit)
+{
+    unsigned length = m == 3 ? 3 : m == 4 ? 4 : 5;
+    for (unsigned i = 0; i < RINGS; i++)
+        near_word[i] = NO_WORD;
+    for (unsigned which = 0; which < 1u << 2 * length; which++) {
+        uint8_t message[RING], ring[RING];
+        ring_of(which, message);
+        if (second_ring_encode(2, m, message, length, ring, RING) != 256)
+            return 0;
+        unsigned word = number_of(ring);
+        for (unsigned change = 0; change <= (limit ? 3 * RING : 0); change++) {
+            unsigned near = word ^ (change ? (1 + (change - 1) % 3) << 2 * ((change - 1) / 3) : 0);
+            if (near_word[near] != NO_WORD)
+                return 0;
+            near_word[near] = word;
+            near_wrong[near] = change > 0;
+        }
+    }
+    return 1;
+}
+
+/* One ring: the word within the limit, or none; with a limit that is above the largest, 19. */
+static int check_ring(unsigned m, unsigned limit, int refused, unsigned number)
+{
+    uint8_t y[RING], answer[RING], flags[RING], word[RING];
+    int found = !refused && near_word[number] != NO_WORD, ok = 1;
+    ring_of(number, y);
+    ring_of(found ? near_word[number] : 0, word);
+    memset(answer, 0xEE, sizeof answer);
+    memset(flags, 0xEE, sizeof flags);
+    uint32_t e = gren_ring_decode_pits(2, m, limit, y, RING, answer, RING, flags, RING, space, sizeof space);
+    for (size_t i = 0; i < RING; i++)
+        ok &= answer[i] == (found ? word[i] : 0xEE) && flags[i] == (found ? word[i] != y[i] : 0xEE);
+    tried.rings[refused ? 3 : found ? near_wrong[number] : 2]++;
+    return ok && e == (refused ? GREN_BAD_PITS : found ? 256u + near_wrong[number] : 256u * GREN_NONE);
+}
+
+/* H(3), H(4) and H(5) with all limits: every ring of this half, and a few rings with a limit that is one too large. */
+static int check_rings(void)
+{
+    for (unsigned m = 3; m <= 5; m++)
+        for (unsigned limit = 0, most = m < 5 ? 1 : 0; limit <= most + 1; limit++) {
+            int refused = limit > most;
+            if (!refused && !find_near(m, limit)) {
+                printf("exhaustive: H(%u): two words are within %u symbols of one ring\n", m, limit);
+                return 0;
+            }
+            for (unsigned long ring = half; ring < RINGS; ring += 2 * (refused ? 1001 : one_ring_in))
+                if (!check_ring(m, limit, refused, (unsigned)ring)) {
+                    printf("exhaustive: H(%u), ring %lu, by wrong symbols, limit %u FAILED\n", m, ring, limit);
+                    return 0;
+                }
+        }
+    return 1;
+}
+
 static int check_half(unsigned which)
 {
     static const uint8_t points[MOST_COLUMNS] = {2, 0, 3, 1};
@@ -409,12 +494,13 @@ static int check_half(unsigned which)
                     return 0;
             }
         }
-    return half ? check_rows(points) : check_factor_lists(points, 2) && check_factor_lists(points, 3);
+    return check_rings() && (half ? check_rows(points) : check_factor_lists(points, 2) && check_factor_lists(points, 3));
 }
 
 int main(int argc, char **argv)
 {
     most_symbols = argc > 1 ? strtoul(argv[1], NULL, 10) : most_symbols;
+    one_ring_in = argc > 2 ? strtoul(argv[2], NULL, 10) : one_ring_in;
     if (!in_halves(check_half, (unsigned long *)&tried, sizeof tried / sizeof(unsigned long)))
         return 1;
     for (int with_factors = 0; with_factors < 2; with_factors++)
@@ -426,5 +512,8 @@ int main(int argc, char **argv)
            tried.factors[2], tried.factors[3], tried.factors[4]);
     printf("exhaustive: rows read by their powers: corrected %lu, none %lu, several %lu, hollow %lu, as the search over codewords says\n",
            tried.rows[1], tried.rows[2], tried.rows[3], tried.rows[4]);
+    printf("exhaustive: rings by their wrong symbols, q 2: corrected with 0 wrong %lu, with 1 %lu, none %lu, as all words say; refused 19: "
+           "%lu\n",
+           tried.rings[0], tried.rings[1], tried.rings[2], tried.rings[3]);
     return 0;
 }

@@ -24,8 +24,8 @@ static unsigned multiply(unsigned degree, unsigned a, unsigned b)
     return whole;
 }
 
-/* Each product is multiplied out once and then kept. */
-unsigned second_product(unsigned degree, unsigned a, unsigned b)
+/* All multiples of a. Each product is multiplied out once and then kept. */
+static const uint8_t *multiples(unsigned degree, unsigned a)
 {
     static uint8_t products[9][256][256], known[9];
     if (!known[degree]) {
@@ -34,7 +34,12 @@ unsigned second_product(unsigned degree, unsigned a, unsigned b)
                 products[degree][i][j] = (uint8_t)multiply(degree, i, j);
         known[degree] = 1;
     }
-    return products[degree][a][b];
+    return products[degree][a];
+}
+
+unsigned second_product(unsigned degree, unsigned a, unsigned b)
+{
+    return multiples(degree, a)[b];
 }
 
 unsigned second_inverse(unsigned degree, unsigned a)
@@ -92,10 +97,10 @@ static struct solutions solve(unsigned degree, uint8_t (*equations)[MOST], size_
         for (size_t i = 0; i < unknowns; i++)
             equations[rank][i] = (uint8_t)second_product(degree, swap[i], inverse);
         for (size_t other = 0; other < rows; other++) {
-            unsigned factor = equations[other][column];
-            if (other != rank && factor)
-                for (size_t i = 0; i < unknowns; i++)
-                    equations[other][i] ^= (uint8_t)second_product(degree, factor, equations[rank][i]);
+            const uint8_t *times = multiples(degree, equations[other][column]);
+            if (other != rank && equations[other][column])
+                for (size_t i = column; i < unknowns; i++) /* before that the row is zero */
+                    equations[other][i] ^= times[equations[rank][i]];
         }
         pivot_of[rank++] = column;
         is_pivot[column] = 1;
@@ -736,4 +741,127 @@ uint32_t second_ring_decode_lost(uint32_t q, uint32_t m, uint32_t limit, const u
     if (ending / 256 == 1)
         array_ring(q, rebuilt, answer);
     return ending;
+}
+
+/* ---- rings by their wrong symbols */
+
+/* '(q³ − m − 1 − g)/2 rounded down', or -1 where that is below zero */
+int second_pits_limit(unsigned q, unsigned m)
+{
+    int over = (int)(q * q * q) - (int)m - 1 - (int)(q * (q - 1) / 2);
+    return over < 0 ? -1 : over / 2;
+}
+
+/* The values at a point of the functions x^i·y^j, j below q, of pole order at most `most`, 'x having order q and y order q+1';
+ * answers how many there are. */
+static size_t functions_at(unsigned q, unsigned most, unsigned x, unsigned y, uint8_t *values)
+{
+    size_t count = 0;
+    for (unsigned j = 0; j < q; j++) {
+        unsigned v = raised(q, y, j);
+        for (unsigned i = 0; i * q + j * (q + 1) <= most; i++) {
+            values[count++] = (uint8_t)v;
+            v = second_product(q, v, x);
+        }
+    }
+    return count;
+}
+
+/* The value at a point of the function that has these coefficients. */
+static unsigned function_at(unsigned q, unsigned most, unsigned x, unsigned y, const uint8_t *coefficients)
+{
+    uint8_t values[MOST];
+    size_t count = functions_at(q, most, x, y, values);
+    unsigned sum = 0;
+    for (size_t i = 0; i < count; i++)
+        sum ^= second_product(q, coefficients[i], values[i]);
+    return sum;
+}
+
+/* The key equation: L of pole order at most `order`, not zero, and N of pole order at most m + order, with N = received · L in all
+ * points. Where a word differs in few symbols, that is N = word · L, and L is zero in at most `order` points. */
+static int locating_function(unsigned q, unsigned m, unsigned order, const uint8_t *xs, const uint8_t *ys, const uint8_t *received,
+                             uint8_t *l)
+{
+    size_t size = q * q * q, count = 0, unknowns = 0;
+    uint8_t(*equations)[MOST] = calloc(size, MOST);
+    for (size_t p = 0; p < size; p++) {
+        count = functions_at(q, order, xs[p], ys[p], equations[p]);
+        for (size_t i = 0; i < count; i++)
+            equations[p][i] = (uint8_t)second_product(q, received[p], equations[p][i]);
+        unknowns = count + functions_at(q, m + order, xs[p], ys[p], equations[p] + count);
+    }
+    struct solutions s = solve(q, equations, size, unknowns);
+    int found = s.count > 0;
+    if (found)
+        memcpy(l, s.basis[0], count);
+    free(s.basis);
+    free(equations);
+    return found;
+}
+
+/* The function of pole order at most m that has the received symbols in the points with use[p], if there is one. */
+static int function_through(unsigned q, unsigned m, const uint8_t *xs, const uint8_t *ys, const uint8_t *use, const uint8_t *received,
+                            uint8_t *f)
+{
+    size_t rows = 0, count = 0;
+    uint8_t(*equations)[MOST] = calloc(q * q * q, MOST);
+    for (size_t p = 0; p < q * q * q; p++)
+        if (use[p]) {
+            equations[rows][0] = received[p];
+            count = functions_at(q, m, xs[p], ys[p], equations[rows++] + 1);
+        }
+    struct solutions s = solve(q, equations, rows, 1 + count);
+    int found = 0;
+    for (size_t b = 0; b < s.count && !found; b++)
+        if (s.basis[b][0]) {
+            for (size_t i = 0; i < count; i++)
+                f[i] = (uint8_t)second_quotient(q, s.basis[b][1 + i], s.basis[b][0]);
+            found = 1;
+        }
+    free(s.basis);
+    free(equations);
+    return found;
+}
+
+/* "Corrected", with answer and flags written, or "none". */
+static uint32_t pits_ending(unsigned q, unsigned m, unsigned limit, const uint8_t *received, uint8_t *answer, uint8_t *flags)
+{
+    uint8_t xs[64], ys[64], l[MOST], f[MOST], use[64], word[64];
+    unsigned size = q * q * q, order = limit + q * (q - 1) / 2, wrong = 0;
+    ring_points(q, xs, ys);
+    if (!locating_function(q, m, order, xs, ys, received, l))
+        return 256 * 2;
+    for (size_t p = 0; p < size; p++)
+        use[p] = function_at(q, order, xs[p], ys[p], l) != 0;
+    if (!function_through(q, m, xs, ys, use, received, f))
+        return 256 * 2;
+    for (size_t p = 0; p < size; p++) {
+        word[p] = (uint8_t)function_at(q, m, xs[p], ys[p], f);
+        wrong += word[p] != received[p];
+    }
+    if (wrong > limit)
+        return 256 * 2;
+    for (size_t p = 0; p < size; p++) {
+        answer[p] = word[p];
+        flags[p] = word[p] != received[p];
+    }
+    return 256 + wrong;
+}
+
+uint32_t second_ring_decode_pits(uint32_t q, uint32_t m, uint32_t limit, const uint8_t *received, size_t received_length,
+                                 uint8_t *answer, size_t answer_length, uint8_t *flags, size_t flags_length, uint8_t *space,
+                                 size_t space_length)
+{
+    uint8_t lengths[4];
+    size_t size = (size_t)q * q * q;
+    int fit = decoding_fits(size, size, received_length, answer_length, flags_length, space_length);
+    unsigned k = ring_decoding_check(q, m, lengths, fit, received, received_length);
+    if (k)
+        return k;
+    int most = second_pits_limit(q, m);
+    if (most < 0 || limit > (uint32_t)most)
+        return 19;
+    memset(space, 0, SECOND_SPACE);
+    return pits_ending(q, m, limit, received, answer, flags);
 }

@@ -84,7 +84,7 @@ lost-more n i L q = ext-getD 0 (set (lostFlags n L) i 1) (lostFlags n (i ∷ L))
         ∙ flag-here (λ k. isIn k L) n j h
         ∙ sym (flag-here (λ k. isIn k (i ∷ L)) n j h ∙ ap (λ (b : Bool). flag (b || isIn j L)) (ne-eqb j i e))
 
-no-flags : (f : ℕ → Bool) (i n : ℕ) → ((j : ℕ) → f j ≡ false) → total (flagsFrom f i n) ≡ 0
+pub no-flags : (f : ℕ → Bool) (i n : ℕ) → ((j : ℕ) → f j ≡ false) → total (flagsFrom f i n) ≡ 0
 unfolding flagsFrom total
 no-flags f i zero h = refl
 no-flags f i (suc n) h = rw (h i) (zero-add (total (flagsFrom f (suc i) n)) ∙ no-flags f (suc i) n h)

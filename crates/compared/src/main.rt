@@ -2,7 +2,7 @@
 // of 610 bytes; numbers of two bytes have the low one first:
 //
 //   0           0, 1, 2 for encoding, reading and decoding a mark; 3, 4, 5 for a ring; 6 for decoding a ring with lost sectors, and 7
-//               a mark with lost columns; 8 for decoding a row by its powers
+//               a mark with lost columns; 8 for decoding a row by its powers; 9 for decoding a ring by its wrong symbols
 //   1, 2        the degree, or q
 //   3, 4        the trial limit
 //   5, 6        a ring's m
@@ -206,6 +206,17 @@ fn powers(frame: &[u8], result: &mut [u8], flags: &mut [u8], space: &mut [u8]) -
     )
 }
 
+// The call on a ring that is decoded by its wrong symbols.
+fn pits(frame: &[u8], result: &mut [u8], flags: &mut [u8], space: &mut [u8]) -> u32
+    requires { ⌜ length (now frame) ≡ 610 ⌝ }
+{
+    let q = number(frame, 1);
+    let limit = number(frame, 3);
+    let m = number(frame, 5);
+    let input = part(frame, 118, many(frame, 8, 385));
+    firmware::gren_ring_decode_pits(q, m, limit, input, result, flags, space)
+}
+
 // The call of a frame, on anything else.
 fn made(frame: &[u8], result: &mut [u8], flags: &mut [u8], space: &mut [u8]) -> u32
     requires { ⌜ length (now frame) ≡ 610 ⌝ }
@@ -252,6 +263,9 @@ fn called(frame: &[u8], result: &mut [u8], flags: &mut [u8], space: &mut [u8]) -
 {
     if frame[0] == 8 {
         return powers(frame, result, flags, space);
+    }
+    if frame[0] == 9 {
+        return pits(frame, result, flags, space);
     }
     made(frame, result, flags, space)
 }

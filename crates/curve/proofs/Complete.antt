@@ -1,34 +1,37 @@
 -- The model finds the word of H(m) that differs from the received ring in few symbols, and there is only one.
 --
---   wrongAt v w i          v and w differ at point i; wrongSymbols q v w, how often
 --   planted                f·L and L, L being zero at the wrong points, are a pair of low lead that the first run's lines reach
 --   N-product              so of the line of lowest lead N is f·L, and L is not zero
 --   used-usable            where its L is not zero the received symbols are right, and that is at all points but τ + genus q
 --   complete               so the model's answer is the word of f, if that differs from the received ring in τ symbols at most
 --   near-answer            the same of a word; unique-near, no two words are that near
+--   answer-ring            whatever is received, the answer is a ring
 -- Assumes nothing.
 use mathlib.Core.Path.{_≡_, refl, sym, _∙_, ap}
 use mathlib.Core.Logic.{_⊎_, inl, inr}
 use mathlib.Core.Bool.{Bool, true, false, not, true≢false}
-use mathlib.Core.List.{List}
+use mathlib.Core.List.{List, [], _∷_, map}
 use mathlib.Core.Option.{Option, none, some}
 use Prim.Native.Nat.{ℕ, suc, _+_, _*_, _≤_, _<_}
 use native.Mathlib.Omega.{arith}
 use lib.Dec.{eqb}
-use lib.ListN.{getD}
+use lib.ListN.{getD, length-map}
 use borrow.Author.Tests.{eqb-true, eq-eqb, not-false}
 use Rattle.field.specs.Arithmetic.{gf}
-use Rattle.field.specs.Symbols.{times}
+use Rattle.field.specs.Symbols.{IsSymbol, times}
 use Rattle.field.proofs.Laws.{Field}
-use Rattle.poly.specs.Poly.{Zero}
+use Rattle.poly.specs.Poly.{All, Zero}
 use Rattle.poly.proofs.Ring.{times-zero, times-comm, times-cancel}
 use Rattle.codes.specs.Code.{total, flagsFrom, IsMessage}
 use Rattle.codes.proofs.Flags.{flags-same}
 use Rattle.basis.proofs.Vector.{Below, Lead, at-zero, at-in, lead-or-zero, lead-below}
 use Rattle.basis.proofs.Scan.{Any, any-all}
 use Rattle.basis.proofs.Basis.{Entry, Led, Reaches}
-use Rattle.hermitian.specs.Ring.{ringLengths, ringCode, ringWord, RingWord, IsRing}
+use Rattle.basis.proofs.Placed.{dot-in}
+use Rattle.hermitian.specs.Ring.{numbers, ringLengths, ringCode, ringWord, RingWord, IsRing}
 use Rattle.hermitian.specs.Checks.{badSize, badOrder}
+use Rattle.hermitian.specs.Pits.{wrongAt, wrongSymbols, genus}
+use Rattle.hermitian.proofs.Numbers.{length-numbers}
 use Rattle.hermitian.proofs.Rings.{ring-field}
 use Rattle.hermitian.proofs.Words.{word-ring}
 use Rattle.curve.proofs.Alive.{ring-side, ringFunctions}
@@ -36,16 +39,11 @@ use Rattle.curve.proofs.Zeros.{point, valAt, zeroAt, zero-function, zer
 use Rattle.curve.proofs.Products.{mulRows, mulRows-within, ring-below, word-times}
 use Rattle.curve.proofs.Pairs.{pair, pair-lead, evens, odds, evens-within, odds-within, evens-below, odds-below}
 use Rattle.curve.proofs.Pairs.{zero-pair, formL-value}
-use Rattle.curve.proofs.Model.{conditionL, ran, leastOf, least-found, least-has, least-lowest, usedBy, used, secondRun, answer}
+use Rattle.curve.proofs.Model.{conditionL, ran, leastOf, least-found, least-has, least-lowest}
+use Rattle.curve.proofs.Model.{usedBy, used, secondRun, answerBy, answer}
 use Rattle.curve.proofs.Model.{solutions, solution-pair, Solution, solution-values, ran-basis}
-use Rattle.curve.proofs.Vanishing.{genus, vanishing}
+use Rattle.curve.proofs.Vanishing.{vanishing}
 use Rattle.curve.proofs.Found.{Usable, answer-word}
-
-abbrev pub wrongAt : List ℕ → List ℕ → ℕ → Bool
-wrongAt v w i = not (eqb (getD v i 0) (getD w i 0))
-
-abbrev pub wrongSymbols : ℕ → List ℕ → List ℕ → ℕ
-wrongSymbols q v w = total (flagsFrom (wrongAt v w) 0 (q * q * q))
 
 module _ (q : ℕ) (size : badSize q ≡ false) (m : ℕ) (order : badOrder q m ≡ false) (r : List ℕ) (received : IsRing q r)
     (τ : ℕ) (room : ¬ (q * q * q < m + 1 + genus q + 2 * τ)) (f : List ℕ) (message : IsMessage (ringCode q m) f)
@@ -201,6 +199,26 @@ module _ (q : ℕ) (size : badSize q ≡ false) (m : ℕ) (order : badOrder q m 
   where
     pub near-answer : {w : List ℕ} → RingWord q m w → wrongSymbols q r w ≤ τ → answer q m r ≡ w
     near-answer (f, message, e) near = complete q size m order r received τ room f message (rw e near) ∙ e
+
+    -- whatever is received, the answer is a ring
+    pub answer-ring : IsRing q (answer q m r)
+    unfolding answer answerBy
+    answer-ring = lines (secondRun q m r)
+      where
+        𝓕 : Field (gf q)
+        𝓕 = ring-field q size
+
+        mapped : (f : ℕ → ℕ) → ((i : ℕ) → IsSymbol q (f i)) → (xs : List ℕ) → All (IsSymbol q) (map f xs)
+        mapped f h [] = tt
+        mapped f h (x ∷ xs) = (h x, mapped f h xs)
+
+        lines : (es : List (Entry ℕ)) → IsRing q (answerBy q m r es)
+        lines [] = received
+        lines (e ∷ es) = record {
+          count = length-map (numbers (q * q * q)) _ ∙ length-numbers (q * q * q);
+          symbols = mapped _ (λ i. 𝓕 .plus-in _ _ (at-in (gf q) 𝓕 r (received .symbols) i) (dot-in (gf q) 𝓕 _ 0 (e .vec)))
+              (numbers (q * q * q));
+        }
 
     pub unique-near : {v w : List ℕ} → RingWord q m v → RingWord q m w → wrongSymbols q r v ≤ τ → wrongSymbols q r w ≤ τ → v ≡ w
     unique-near hv hw nv nw = sym (near-answer hv nv) ∙ near-answer hw nw

@@ -1,6 +1,6 @@
--- A function of low lead that is zero at given points: there are more free places than conditions.
+-- A function of low lead that is zero at given points: there are more free places than conditions. The genus is the number of places
+-- that are not free.
 --
---   genus q          q·(q − 1)/2, which is the number of places that are not free
 --   placesTo q t     the free places up to t
 --   Roomy q          those up to τ + genus q are more than τ, for τ below q³, which antt computes for both sizes
 --   vanishing        a function of lead up to τ + genus q that is zero at the points flagged, where these are τ or fewer
@@ -9,7 +9,7 @@ use mathlib.Core.Path.{_≡_, refl, sym, _∙_, ap, subst}
 use mathlib.Core.Logic.{_⊎_, inl, inr}
 use mathlib.Core.Bool.{Bool, true, false, _&&_, true≢false}
 use mathlib.Core.List.{List, map}
-use Prim.Native.Nat.{ℕ, suc, _+_, _-_, _*_, _/_, _%_, _≤_, _<_}
+use Prim.Native.Nat.{ℕ, suc, _+_, _*_, _/_, _%_, _≤_, _<_}
 use native.Mathlib.Omega.{arith}
 use lib.Dec.{T, leb, ltb, leb→le, ltb→lt}
 use lib.ListN.{length, length-map}
@@ -25,14 +25,12 @@ use Rattle.basis.proofs.Basis.{Form, Lawful, of-kernels}
 use Rattle.basis.proofs.Survive.{survive}
 use Rattle.hermitian.specs.Ring.{those, ringPoints}
 use Rattle.hermitian.specs.Checks.{badSize}
+use Rattle.hermitian.specs.Pits.{genus}
 use Rattle.hermitian.proofs.Sizes.{each, tested}
 use Rattle.hermitian.proofs.Rings.{ring-field}
 use Rattle.curve.proofs.Orders.{Free, start, unit-led}
 use Rattle.curve.proofs.Alive.{ring-side, ringFunctions, those-pass}
 use Rattle.curve.proofs.Zeros.{rising-from, form-at, forms-lawful, valAt}
-
-abbrev pub genus : ℕ → ℕ
-genus q = q * (q - 1) / 2
 
 abbrev freeTo : ℕ → ℕ → ℕ → Bool
 freeTo q t p = leb p t && leb (p % q) (p / q)

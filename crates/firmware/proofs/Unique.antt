@@ -2,8 +2,8 @@
 -- call is given.
 --
 --   returns-unique    where no two ends of the call keep its promise, neither do two numbers
---   mark-encode, mark-read, mark-decode, ring-encode, ring-read, ring-decode, mark-decode-lost, ring-decode-lost, mark-decode-powers,
---   tray-decode       so of each function
+--   mark-encode, mark-read, mark-decode, ring-encode, ring-read, ring-decode, mark-decode-lost, ring-decode-lost, ring-decode-pits,
+--   mark-decode-powers, tray-decode    so of each function
 -- Assumes nothing.
 use mathlib.Core.Path.{_≡_, sym, ap, _∙_}
 use mathlib.Core.List.{List}
@@ -29,6 +29,8 @@ use Rattle.ring.proofs.Unique as ring-unique
 use Rattle.sectors.specs.Promises as sectors
 use Rattle.sectors.specs.Lost as sectors-lost
 use Rattle.sectors.proofs.Lost as sectors-unique
+use Rattle.scattered.specs.Promises as scattered
+use Rattle.scattered.proofs.Ended as scattered-unique
 use Rattle.firmware.specs.Returns.{Returns}
 
 module _ {E B : Type 0} (means : E → Meaning) (Keeps : E → B → Type 0)
@@ -131,3 +133,10 @@ tray-decode g =
     (λ o o′ b b′ h h′.
     let same = tray-unique.unique number g (endedTray o b) (endedTray o′ b′) h h′ in
     (ap (λ (x : LeftTray ℕ). x .outcome) same, ap (λ (x : LeftTray ℕ). (x .answers, x .buffers, x .space)) same))
+
+pub ring-decode-pits : (q m τ : ℕ) (y : List ℕ) (lent : Buffers) (space : List ℕ) {r r′ : ℕ} {b b′ : Kept}
+    → Returns endingMeaning (λ (e : Ending). scattered.Decodes q m τ y lent space (ended e b)) r
+    → Returns endingMeaning (λ (e : Ending). scattered.Decodes q m τ y lent space (ended e b′)) r′ → (r ≡ r′) × (b ≡ b′)
+ring-decode-pits q m τ y lent space =
+    returns-unique endingMeaning (λ (e : Ending) (b : Kept). scattered.Decodes q m τ y lent space (ended e b))
+    (λ e e′ b b′ h h′. ended-parts (scattered-unique.unique q m τ y lent space (ended e b) (ended e′ b′) h h′))

@@ -12,6 +12,7 @@ ghost use Rattle.tray.specs.Promises.{DecodesTray, givenTray, leftTray};
 ghost use Rattle.ring.specs.Promises as rings;
 ghost use Rattle.sectors.specs.Promises as sectors;
 ghost use Rattle.sectors.specs.Lost as sectors-lost;
+ghost use Rattle.scattered.specs.Promises as scattered;
 use ending::Ending;
 use mark::Outcome;
 
@@ -253,4 +254,22 @@ pub extern "C" fn gren_ring_decode_lost(
         (ended e (buffers (now (answer .exit)) (now (flags .exit))) (now (space .exit)))) r ⌝ }
 {
     pack(sectors::decode_lost(q, m, limit, lost, received, answer, flags, space))
+}
+
+// Decodes a received ring by its wrong symbols.
+#[no_mangle]
+pub extern "C" fn gren_ring_decode_pits(
+    q: u32,
+    m: u32,
+    limit: u32,
+    received: &[u8],
+    answer: &mut [u8],
+    flags: &mut [u8],
+    space: &mut [u8],
+) -> u32
+    ensures { λ r. ⌜ Returns endingMeaning (λ e. scattered.Decodes
+        q m limit (now (received .entry)) (buffers (now (answer .entry)) (now (flags .entry))) (now (space .entry))
+        (ended e (buffers (now (answer .exit)) (now (flags .exit))) (now (space .exit)))) r ⌝ }
+{
+    pack(scattered::decode(q, m, limit, received, answer, flags, space))
 }

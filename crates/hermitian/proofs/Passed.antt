@@ -2,8 +2,8 @@
 --
 --   first-of         the first check that applies is one of the checks
 --   ring-passed      what 10, 11 and 18 leave, and the checks that follow
---   PassedEncoding, PassedReading, PassedWord, PassedLost    what the checks of a call leave, of decoding 10, 11, 18, 5 and 7, and all
---                    checks with lost sectors; encoding, reading, words, losing, from them
+--   PassedEncoding, PassedReading, PassedWord, PassedLost, PassedPits    what the checks of a call leave, of decoding 10, 11, 18, 5 and 7,
+--                    and all checks with lost sectors, or by wrong symbols; encoding, reading, words, losing, pitting, from them
 --   reads-on         a ring passes the checks of reading
 --   to-encode, to-read, to-array, to-lose    then no check of the call on the array applies
 -- Assumes nothing.
@@ -11,7 +11,8 @@ use mathlib.Core.Path.{_≡_, refl, sym, _∙_}
 use mathlib.Core.Logic.{_⊎_, inl, inr, ⊎-elim}
 use mathlib.Core.Bool.{true, false}
 use mathlib.Core.List.{List, [], _∷_, _++_, map}
-use Prim.Native.Nat.{ℕ, _*_, _≤_}
+use Prim.Native.Nat.{ℕ, _+_, _-_, _*_, _/_, _≤_, _<_}
+use native.Mathlib.Omega.{arith}
 use lib.Dec.{ltb}
 use lib.ListN.{length, length-replicate}
 use borrow.Author.Tests.{ltb-false}
@@ -31,6 +32,7 @@ use Rattle.codes.proofs.Factors.{each-one, ones-pass, ones-factors}
 use Rattle.hermitian.specs.Ring.{ringLengths, ringCode, IsRing}
 use Rattle.hermitian.specs.Checks.{badSize, badOrder, ringChecks, bufferChecks, encodeChecks, readChecks, receivedChecks}
 use Rattle.hermitian.specs.Checks.{lostChecks}
+use Rattle.hermitian.specs.Pits.{genus, badLimit, pitChecks}
 use Rattle.hermitian.proofs.Numbers.{length-numbers}
 use Rattle.hermitian.proofs.Sizes.{tested, ring-cells, ring-counts, ring-proper}
 
@@ -125,6 +127,24 @@ losing q m τ L y w f s e =
       rest = p .1;
       remain = remains (ringCode q m) τ L (ring-counts q m (p .0 .ring .size) (p .0 .ring .order) .some-columns) (p .1);
     }
+
+pub record PassedPits (q m τ : ℕ) (y w f s : List ℕ) : Type 0 where
+  pub word : PassedWord q m (q * q * q) y w f s
+  pub room : ¬ (q * q * q < m + 1 + genus q + 2 * τ)
+
+-- a limit that is not below zero, and not below τ
+limited : (q m τ : ℕ) → badLimit q m τ ≡ false → ¬ (q * q * q < m + 1 + genus q + 2 * τ)
+limited q m τ e =
+    let limit : ℕ = (q * q * q - (m + 1 + genus q)) / 2 in
+    let (least, most) = neither (ltb (q * q * q) (m + 1 + genus q)) (ltb limit τ) .0 e in
+    let above : m + 1 + genus q ≤ q * q * q = ltb-false (q * q * q) (m + 1 + genus q) least in
+    let below : τ ≤ limit = ltb-false limit τ most in
+    λ h. omega (arith, above, below)
+
+pub pitting : (q m τ : ℕ) (y w f s : List ℕ) → 0 ≡ first (pitChecks q m τ y w f s) → PassedPits q m τ y w f s
+pitting q m τ y w f s e =
+    let p = words q m (q * q * q) y w f s _ e in
+    record { word = p .0; room = limited q m τ (clear 18 _ _ (p .1) .0) }
 
 -- a ring passes the checks of reading, with a buffer of the right length
 pub reads-on : {q m : ℕ} → Passed q m → (f w : List ℕ) → IsRing q w → length f ≡ total (ringLengths q m) → first (readChecks q m w f) ≡ 0

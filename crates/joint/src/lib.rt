@@ -27,8 +27,8 @@ use ending::Ending;
 use field::tables;
 use field::tables::Table;
 
-// Releases the answer and its flags to the buffers lent, on `corrected` alone.
-fn release(ending: Ending, own: &[u8], wrong: &[u8], answer: &mut [u8], flags: &mut [u8])
+// For the crates above too: releases the answer and its flags to the buffers lent, on `corrected` alone.
+pub fn release(ending: Ending, own: &[u8], wrong: &[u8], answer: &mut [u8], flags: &mut [u8])
     requires { ⌜ (length (now own) ≡ length (now answer)) × (length (now wrong) ≡ length (now flags)) ⌝ }
     ensures { λ _. ⌜ buffers (now (answer .exit)) (now (flags .exit))
         ≡ released ending (buffers (now (own .entry)) (now (wrong .entry))) (buffers (now (answer .entry)) (now (flags .entry))) ⌝ }

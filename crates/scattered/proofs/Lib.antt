@@ -1,0 +1,3 @@
+pub mod Flagged
+pub mod Ended
+pub mod Demands
