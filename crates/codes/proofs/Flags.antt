@@ -1,6 +1,6 @@
 -- Tests of columns: their flags, and the points at whose columns they hold.
 --
---   flags-length       there is one for each column
+--   flag-most          a flag is 0 or 1; flags-length, there is one for each column
 --   flag-here          that of a column; flag-right, where it is 0 the test fails
 --   flags-same         tests that agree at each column have the same flags
 --   pointsWhere f xs   the points of xs at whose column f holds
@@ -13,7 +13,7 @@ use mathlib.Core.Path.{_≡_, refl, sym, ap, ap₂, _∙_, subst}
 use mathlib.Core.Logic.{_↔_, _⊎_, inl, inr, ⊎-elim, Iff·trans, Iff·and}
 use mathlib.Core.Bool.{Bool, true, false, true≢false}
 use mathlib.Core.List.{List, [], _∷_}
-use Prim.Native.Nat.{ℕ, zero, suc, _+_, _<_}
+use Prim.Native.Nat.{ℕ, zero, suc, _+_, _≤_, _<_}
 use native.Mathlib.Nat.{add-zero, add-suc, suc-add, zero-add}
 use native.Mathlib.Omega.{arith}
 use lib.ListN.{length, getD}
@@ -21,6 +21,10 @@ use Rattle.poly.specs.Poly.{All}
 use Rattle.poly.proofs.Roots.{Mem, Distinct}
 use Rattle.codes.specs.Code.{total, flag, flagsFrom}
 use Rattle.codes.proofs.Parts.{index-cons, all-map}
+
+pub flag-most : (b : Bool) → flag b ≤ 1
+flag-most true = omega arith
+flag-most false = omega arith
 
 pub flags-length : (f : ℕ → Bool) (i n : ℕ) → length (flagsFrom f i n) ≡ n
 unfolding flagsFrom

@@ -32,6 +32,7 @@ use Rattle.codes.proofs.Parts.{all-at, all-take, all-drop}
 use Rattle.codes.proofs.Proper.{lengths-test}
 use Rattle.codes.proofs.Factors.{Factor}
 use Rattle.mark.specs.Promises.{meaning}
+use Rattle.mark.proofs.Handed.{handed}
 use Rattle.desk.specs.Desk.{deskCode, zeros, zeroDesk, spare, openChecks, putChecks, withArray, placed}
 use Rattle.desk.specs.Desk.{Above, nonzeroRows, Known, Next, Made, opened, put}
 use Rattle.desk.specs.Verdict.{IsRow, Verdict}
@@ -41,7 +42,6 @@ use Rattle.desk.proofs.Columns.{row-end, cell, one-cell, column-there, 
 use Rattle.desk.proofs.Coefficients.{Nodes, one-above, fits-exactly, zero-above, raised-above}
 use Rattle.desk.proofs.Raising.{nonzero-exactly}
 use Rattle.desk.proofs.Verdicts.{counted}
-use Rattle.desk.proofs.Handed.{handed}
 use Rattle.desk.proofs.Sound.{Sound, sound, sound-zero, sound-placed, Openable, passed, spare-passed}
 use Rattle.desk.proofs.Sound.{zeros-zero, length-zeros, quotient, quotient-size, quotient-at}
 

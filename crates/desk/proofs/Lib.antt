@@ -1,6 +1,5 @@
 pub mod Columns
 pub mod Verdicts
-pub mod Handed
 pub mod Sound
 pub mod Coefficients
 pub mod Raising

@@ -21,12 +21,12 @@ use Rattle.codes.proofs.Proper.{Proper}
 use Rattle.codes.proofs.Passed.{is-right}
 use Rattle.codes.proofs.Factors.{each-one, ones-pass, divided-ones}
 use Rattle.mark.specs.Promises.{meaning}
+use Rattle.mark.proofs.Handed.{handed}
 use Rattle.desk.specs.Desk.{deskCode, deskDescription, arrayOf, zeroDesk, spare, openChecks, putChecks, Next, Opens, Puts, Made}
 use Rattle.desk.specs.Verdict.{Misfits, Verdict}
 use Rattle.desk.specs.declared.Desk.{Desk}
 use Rattle.desk.specs.declared.Opened.{Opened}
 use Rattle.desk.specs.declared.Put.{Put}
-use Rattle.desk.proofs.Handed.{handed}
 use Rattle.desk.proofs.Sound.{passed, described-zero, spare-passed, sound, is-array}
 use Rattle.desk.proofs.NoMisfit.{quotient-code}
 

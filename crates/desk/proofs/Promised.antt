@@ -2,42 +2,25 @@
 --
 --   unique-opening, unique-putting, unique-verdict    no two answers keep them; a put, on a desk that came from opening and putting
 -- Assumes nothing.
-use mathlib.Core.Path.{_≡_, sym, ap, ap₂, _∙_, subst}
+use mathlib.Core.Path.{_≡_, sym, ap₂, _∙_, subst}
 use mathlib.Core.List.{List, []}
 use Prim.Native.Nat.{ℕ}
-use Rattle.refusal.specs.Refusal.{Check, first}
-use Rattle.refusal.specs.Meaning.{Meaning}
-use Rattle.refusal.proofs.Keeping as keeping
+use Rattle.refusal.specs.Refusal.{first}
 use Rattle.codes.specs.Factors.{Description}
-use Rattle.mark.specs.Promises.{meaning}
-use Rattle.mark.specs.declared.Outcome.{Outcome}
-use Rattle.mark.proofs.Promised.{meaning-faithful}
-use Rattle.desk.specs.Desk.{zeroDesk, spare, openChecks, withArray, placed, putChecks, Known, Next, Hands, Opens, Puts, Made}
+use Rattle.mark.proofs.Handed.{hands-unique}
+use Rattle.desk.specs.Desk.{zeroDesk, spare, openChecks, withArray, placed, putChecks, Known, Next, Opens, Puts, Made}
 use Rattle.desk.specs.Verdict.{Judges}
 use Rattle.desk.specs.declared.Desk.{Desk}
 use Rattle.desk.specs.declared.Judged.{Judged}
 use Rattle.desk.specs.declared.Opened.{Opened}
 use Rattle.desk.specs.declared.Put.{Put}
-use Rattle.desk.proofs.Handed.{refusing, Own}
 use Rattle.desk.proofs.Sound.{sound, sound-placed, puttable}
 use Rattle.desk.proofs.Verdicts.{same-count}
 use Rattle.desk.proofs.Known.{one-known}
 
--- where there is one next desk
-module _ (cs : List Check) (Next : Desk → Type 0) (refused : Desk) (one : 0 ≡ first cs → (d e : Desk) → Next d → Next e → d ≡ e) where
-  same : (o o′ : Outcome) (d d′ : Desk) → Hands cs Next refused (meaning o, d) → Hands cs Next refused (meaning o′, d′)
-      → (o ≡ o′) × (d ≡ d′)
-  same o o′ d d′ p q =
-      let e = keeping.unique cs (refusing cs Next refused) (Own cs Next refused)
-      (λ none x y p q. both x y (p .0 ∙ sym (q .0)) (one none (x .1) (y .1) (p .1) (q .1))) (meaning o, d) (meaning o′, d′) p q in
-      (meaning-faithful o o′ (ap (λ (h : Meaning × Desk). h .0) e), ap (λ (h : Meaning × Desk). h .1) e)
-    where
-      both : (x y : Meaning × Desk) → x .0 ≡ y .0 → x .1 ≡ y .1 → x ≡ y
-      both x y p q = λ i. (p i, q i)
-
 pub unique-opening : (D : Description) (r r′ : Opened) → Opens D r → Opens D r′ → r ≡ r′
 unique-opening D r r′ p q =
-    let e = same (openChecks D) (λ d. d ≡ zeroDesk D) (zeroDesk spare) (λ none d e p q. p ∙ sym q)
+    let e = hands-unique (openChecks D) (λ d. d ≡ zeroDesk D) (zeroDesk spare) (λ none d e p q. p ∙ sym q)
     (r .outcome) (r′ .outcome) (r .desk) (r′ .desk) p q in
     λ i. record { outcome = e .0 i; desk = e .1 i }
 
@@ -50,7 +33,7 @@ one-next {d} i s m none e f (is, k) (is′, k′) =
 
 pub unique-putting : (d : Desk) (i : ℕ) (s : List ℕ) (r r′ : Put) → Made d → Puts d i s r → Puts d i s r′ → r ≡ r′
 unique-putting d i s r r′ m p q =
-    let e = same (putChecks d i s) (Next d i s) d (one-next i s m) (r .outcome) (r′ .outcome) (r .desk) (r′ .desk) p q in
+    let e = hands-unique (putChecks d i s) (Next d i s) d (one-next i s m) (r .outcome) (r′ .outcome) (r .desk) (r′ .desk) p q in
     λ i. record { outcome = e .0 i; desk = e .1 i }
 
 pub unique-verdict : (d : Desk) (r r′ : Judged) → Judges d r → Judges d r′ → r ≡ r′

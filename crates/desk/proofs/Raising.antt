@@ -24,6 +24,7 @@ use Rattle.field.specs.Symbols.{plus, times}
 use Rattle.lists.specs.Working.Lists.{added, addedAt}
 use Rattle.poly.specs.Poly.{All}
 use Rattle.codes.specs.Code.{total, flag, flagsFrom}
+use Rattle.codes.proofs.Flags.{flag-most}
 use Rattle.codes.proofs.Parts.{all-map}
 use Rattle.codes.proofs.Proper.{lengths-test}
 use Rattle.desk.specs.Working.{Raised}
@@ -122,16 +123,12 @@ counts-begin g n r = let all : r - 0 ≡ r = omega arith in
     record { within = omega arith; place = sym (zero-mul n); few = omega arith; so-far = rw all (zero-add _) }
 
 module _ {g : ℕ → Bool} {n r count start l : ℕ} (c : Counts g n r count start l) where
-  few-flag : (b : Bool) → flag b ≤ 1
-  few-flag true = omega arith
-  few-flag false = omega arith
-
   pub counts-again : {more : ℕ} → l < r → more ≡ count + flag (g l) → Counts g n r more (start + n) (l + 1)
   unfolding total flagsFrom
   counts-again {more} h e = let left : r - l ≡ suc (r - (l + 1)) = omega arith in record {
     within = omega arith;
     place = rw add-one (omega (arith, suc-mul l n, c .place));
-    few = omega (arith, few-flag (g l), c .few);
+    few = omega (arith, flag-most (g l), c .few);
     so-far = rw (e, add-assoc, add-one) (rw (left, add-one) at (c .so-far));
   }
 

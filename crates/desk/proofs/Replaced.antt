@@ -14,11 +14,11 @@ use lib.Seq.{getD-take}
 use Rattle.refusal.specs.Refusal.{first}
 use Rattle.codes.specs.Code.{columns, rows, differsAt}
 use Rattle.mark.specs.Promises.{meaning}
+use Rattle.mark.proofs.Handed.{handed-done}
 use Rattle.codes.proofs.Columns.{agree-exactly, agree-at}
 use Rattle.desk.specs.Desk.{deskCode, deskDescription, arrayOf, withArray, placed, putChecks, Next, Puts, Made}
 use Rattle.desk.specs.declared.Desk.{Desk}
 use Rattle.desk.specs.declared.Put.{Put}
-use Rattle.desk.proofs.Handed.{handed-done}
 use Rattle.desk.proofs.Columns.{column-there, column-other, cell, one-cell}
 use Rattle.desk.proofs.Sound.{puttable, sound}
 

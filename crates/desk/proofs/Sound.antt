@@ -42,7 +42,7 @@ use Rattle.desk.specs.Desk.{Made, opened, put, withArray, Next}
 use Rattle.desk.specs.Working.{Puttable}
 use Rattle.desk.specs.declared.Desk.{Desk}
 use Rattle.mark.specs.Promises.{meaning}
-use Rattle.desk.proofs.Handed.{handed}
+use Rattle.mark.proofs.Handed.{handed}
 use Rattle.desk.proofs.Columns.{length-column, all-column, column-other, cell}
 
 abbrev pub ZeroFrom : ℕ → List ℕ → Type 0

@@ -4,7 +4,6 @@
 --   zeroDesk D              the desk of the description D with an array of zeros; deskOf, a desk from its fields; zeros n, n zeros
 --   spare                   the description of the desk that a refused opening hands over
 --   openChecks, putChecks   the checks, in order
---   Hands cs Next refused h    h, the outcome's meaning and a desk: one that is `Next` where no check of cs applies, else `refused`
 --   Opens D r               opening with the description D hands over r
 --   Above d n xs k ys t     t is k zeros, and from k on the coefficients of the polynomial with the n values ys at the points xs
 --   nonzeroRows r n t       how many of the r rows of n symbols of t have a nonzero one; Known d, `above` and `misfits` of d are these
@@ -18,15 +17,12 @@ use lib.Dec.{leb}
 use lib.ListN.{getD, set, take, drop, replicate}
 use Rattle.patch.specs.Parts.{part, lay}
 use Rattle.refusal.specs.Refusal.{Check, _when_, someOutside, someOutsideField}
-use Rattle.refusal.specs.Keeping.{Keeps}
-use Rattle.refusal.specs.Meaning.{Meaning, refusal}
 use Rattle.field.specs.Arithmetic.{gf}
 use Rattle.poly.specs.Poly.{Poly, valuesAt}
 use Rattle.codes.specs.Code.{Code, codeOf, columns, rows, total, flagsFrom}
 use Rattle.codes.specs.Factors.{Description, plain, divided}
 use Rattle.codes.specs.Checks.{shapeChecks, columnChecks, wrongLength}
-use Rattle.mark.specs.Promises.{meaning}
-use Rattle.mark.specs.declared.Outcome.the-variants.{Done}
+use Rattle.mark.specs.Promises.{meaning, Hands}
 use Rattle.desk.specs.declared.Desk.{Desk}
 use Rattle.desk.specs.declared.Opened.{Opened}
 use Rattle.desk.specs.declared.Put.{Put}
@@ -61,9 +57,6 @@ spare = plain (codeOf 2 (0 ∷ 1 ∷ []) (1 ∷ []))
 -- spare factor is 5, at opening a desk too, after 4 and 18; 23, a factor outside the field or zero, after 6'
 abbrev pub openChecks : Description → List Check
 openChecks D = shapeChecks 16 (D .code) ++ (5 when wrongLength (columns (D .code)) (D .factors)) ∷ columnChecks D
-
-abbrev pub Hands : (cs : List Check) (Next : Desk → Type 0) (refused : Desk) → Meaning × Desk → Type 0
-Hands cs Next refused = Keeps cs (λ k. (refusal k, refused)) (λ h. (h .0 ≡ meaning Done) × Next (h .1))
 
 -- 'a refused opening hands over, beside its number, the zero desk of GF(4) with points 0 1 and k 1'
 abbrev pub Opens : Description → Opened → Type 0

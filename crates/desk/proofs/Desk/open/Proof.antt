@@ -4,9 +4,9 @@ use mathlib.Core.Path.{_≡_, sym, _∙_}
 use Rattle.refusal.specs.Refusal.{first}
 use Rattle.codes.specs.Factors.{Description, descriptionOf}
 use Rattle.mark.specs.declared.Outcome.the-variants.{Done, Refused}
+use Rattle.mark.proofs.Handed.{hands, hands-not}
 use Rattle.desk.specs.Desk.{openChecks, zeroDesk, spare, opened}
 use Rattle.desk.proofs.Sound.{passed, few-factors}
-use Rattle.desk.proofs.Handed.{hands, hands-not}
 use borrow.Author.Needs.{needs}
 use Rattle.desk.proofs.Desk.open.Statement.{statement}
 use Rattle.desk.proofs.Desk.open.Tie as tie

@@ -6,12 +6,12 @@ use lib.ListN.{take}
 use Rattle.patch.proofs.Parts.{take-lay}
 use Rattle.refusal.specs.Refusal.{first}
 use Rattle.mark.specs.declared.Outcome.the-variants.{Done}
+use Rattle.mark.proofs.Handed.{hands, hands-not}
 use Rattle.desk.specs.Desk.{placed, putChecks, Next, put}
 use Rattle.desk.specs.Working.{Puttable}
 use Rattle.desk.specs.declared.Desk.{Desk}
 use Rattle.desk.proofs.Sound.{puttable, sound}
 use Rattle.desk.proofs.Known.{placeable, put-next}
-use Rattle.desk.proofs.Handed.{hands, hands-not}
 use borrow.Author.Needs.{needs}
 use Rattle.desk.proofs.Desk.put.Statement.{statement}
 use Rattle.desk.proofs.Desk.put.Tie as tie
