@@ -69,6 +69,14 @@
  *
  * With s = 1 it is the decoding of the one row. The working space is as in decoding.
  *
+ * LISTING EVERY ARRAY THAT FITS takes a code of at most GREN_MOST_LISTED columns and answers 256 + the number of code arrays that differ
+ * from the received one in at most so many columns as the trial limit says, or the number of the refusal with the room as it was. The
+ * first of them are written one after another, as many as the room has place for; what is left of the room is as it was. Those with fewer
+ * wrong columns come first and, among equal numbers, those whose wrong columns come first in the dictionary. It takes no flags and no
+ * working space, and tries every set of so many columns, up to 65,536 of them. After "corrected" the first array of the list is that
+ * answer, and all others have more wrong columns; after "none" the list is empty, and at the safe limit or below it is empty after
+ * "several" and "hollow" too.
+ *
  * DECODING A TRAY takes 1 to GREN_MOST_MARKS marks of one code in one call, their arrays one after another, and writes into answers[i]
  * what decoding mark i alone answers, 256 · code + detail, and into its part of arrays and flags what that leaves. A mark with a symbol
  * outside the field is refused on its own, GREN_BAD_SYMBOL, its array and flags as they were, and the others go on. The call answers
@@ -92,7 +100,7 @@
  * VERSIONS. From version 2 on the four calls on marks take factors and factor_count right after points and columns. A caller of the
  * version before, which did not name itself, hands in as many bytes of 1 as there are columns, is compiled anew, and gets the answers
  * that it got before. Version 3 has gren_mark_decode_powers and gren_tray_decode
- * besides, and version 4 gren_ring_decode_pits; they change nothing for a caller of version 2.
+ * besides, version 4 gren_ring_decode_pits, and version 5 gren_mark_list; none of these changes anything for a caller of version 2.
  */
 #ifndef GRENHYRNA_H
 #define GRENHYRNA_H
@@ -100,7 +108,7 @@
 #include <stddef.h>
 #include <stdint.h>
 
-#define GREN_VERSION 4 /* of these declarations */
+#define GREN_VERSION 5 /* of these declarations */
 
 #ifdef __cplusplus
 extern "C" {
@@ -111,6 +119,7 @@ enum {
     GREN_MOST_COLUMNS = 96,
     GREN_MOST_SYMBOLS = 384, /* rows · columns, and so K */
     GREN_MOST_MARKS = 64,    /* of a tray */
+    GREN_MOST_LISTED = 16,   /* columns, where every array that fits is listed */
     GREN_SPACE = 49152       /* bytes of working space */
 };
 
@@ -136,9 +145,9 @@ enum { GREN_RIGHT = 0, GREN_WRONG = 1, GREN_LOST = 2 };
 /* The numbers of the refusals: the first that applies, in the order of checking, is the answer. Marks check 1, 2, 3, 4, 18, 5, 6, 23,
  * 7, then reading 9 and decoding 8; rings check 10, 11, 18, 5, 7, then reading 9 and decoding 8. With lost columns 16 and 17 come
  * after 7 and before 8; 4, 18, 5, 6, 23 and 7 read all columns, lost or not, and 8 the remaining ones. Decoding by powers checks 1, 3,
- * 20, 4, 18, 5, 6, 23, 7 and 8; 4 and 18 read k and the largest length s·(k − 1) + 1, and 5 the lengths of one row. Trays
- * check 1, 2, 3, 4, 18, 15, 5, 6, 23, 8, and then each mark's own 7. Decoding a ring by its wrong symbols checks 10, 11, 18, 5, 7 and
- * 19. */
+ * 20, 4, 18, 5, 6, 23, 7 and 8; 4 and 18 read k and the largest length s·(k − 1) + 1, and 5 the lengths of one row. Listing
+ * checks 1, 2, 3, 21, 4, 18, 5, 22, 6, 23, 7 and 8; 5 reads received and factors. Trays check 1, 2, 3, 4, 18, 15, 5, 6, 23, 8, and then
+ * each mark's own 7. Decoding a ring by its wrong symbols checks 10, 11, 18, 5, 7 and 19. */
 enum {
     GREN_BAD_DEGREE = 1,     /* degree is not 2, 4 or 8 */
     GREN_BAD_ROWS = 2,       /* count of the lengths is not 1 to 4 */
@@ -158,6 +167,8 @@ enum {
     GREN_NO_CHECKS = 18,     /* some k equals the number of columns; of a ring, of sectors */
     GREN_BAD_PITS = 19,      /* by wrong symbols: the limit is above (q³ − m − 1 − g)/2, or that is below zero */
     GREN_BAD_POWERS = 20,    /* the number of powers is not 1 to 4 */
+    GREN_TOO_WIDE = 21,      /* listing: more than 16 columns */
+    GREN_BAD_ROOM = 22,      /* listing: the room's length is not that of a whole number of arrays */
     GREN_BAD_FACTOR = 23     /* a factor is outside the field or zero */
 };
 
@@ -188,6 +199,11 @@ uint32_t gren_mark_decode_powers(uint32_t degree, uint32_t k, uint32_t powers, c
                                  const uint8_t *factors, size_t factor_count, uint32_t limit, const uint8_t *received,
                                  size_t received_length, uint8_t *answer, size_t answer_length, uint8_t *flags,
                                  size_t flags_length, uint8_t *space, size_t space_length);
+
+/* Lists every code array within the trial limit: 256 + their number, and the first of them in the room. */
+uint32_t gren_mark_list(uint32_t degree, const uint8_t *lengths, size_t rows, const uint8_t *points, size_t columns,
+                        const uint8_t *factors, size_t factor_count, uint32_t limit, const uint8_t *received,
+                        size_t received_length, uint8_t *room, size_t room_length);
 
 /* Decodes a tray of marks of one code: received and arrays hold marks arrays one after another, and flags columns flags a mark. */
 uint32_t gren_tray_decode(uint32_t degree, const uint8_t *lengths, size_t rows, const uint8_t *points, size_t columns,

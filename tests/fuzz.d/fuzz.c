@@ -87,7 +87,7 @@ static size_t any_length(size_t right, size_t most)
 /* The ways of decoding, and how often each ended how. */
 enum { NO_LIST, WITH_LIST, BY_POWERS, BY_SYMBOLS, WAYS };
 static const char *const ways[WAYS] = {"with no list", "with lost columns", "by powers", "by wrong symbols"};
-static unsigned long ends[WAYS][5], refused, refused_for_a_factor, done, trays, trays_refused, marks_ended[5];
+static unsigned long ends[WAYS][5], refused, refused_for_a_factor, done, trays, trays_refused, marks_ended[5], lists, listed;
 static int on_mark; /* the call is on a mark: rings have no factors */
 
 static int only_read(void)
@@ -312,6 +312,36 @@ static int row(void)
                                            buffers[FLAGS].at, buffers[FLAGS].length, buffers[SPACE].at, buffers[SPACE].length));
 }
 
+/* Every array that fits, of a code that is nearly always a good one. */
+static int list(void)
+{
+    static const uint32_t degrees[] = {2, 4, 8};
+    uint32_t degree = degrees[below(3)], got;
+    unsigned symbols = 1u << degree;
+    size_t rows = 1 + below(4), columns = 2 + below(symbols < 6 ? symbols - 1 : 5), cells = rows * columns, most;
+    struct buffer *ks = &buffers[LENGTHS], *xs = &buffers[POINTS], *fs = &buffers[FACTORS], *y = &buffers[INPUT], *a = &buffers[RESULT];
+    lay(LENGTHS, any_length(rows, 8), 256);
+    for (size_t l = 0; l < ks->length && !chance(20); l++)
+        ks->at[l] = (uint8_t)(1 + below((unsigned)columns - 1));
+    memcpy(ks->copy, ks->room, ks->size);
+    lay(POINTS, any_length(columns, 300), symbols);
+    for (size_t i = 0; i < xs->length && !chance(20); i++)
+        xs->at[i] = (uint8_t)i;
+    memcpy(xs->copy, xs->room, xs->size);
+    lay_factors(columns, symbols);
+    lay_lost(0, columns);
+    lay(INPUT, any_length(cells, 1000), chance(3) ? 1 : chance(3) ? 2 : symbols);
+    lay(RESULT, any_length(cells * below(4), 1000), 256);
+    lay(FLAGS, 0, 1);
+    lay(SPACE, 0, 1);
+    got = gren_mark_list(any_number(degree), ks->at, ks->length, xs->at, xs->length, fs->at, fs->length,
+                         any_number(below((unsigned)columns / 2 + 1)), y->at, y->length, a->at, a->length);
+    most = ks->length && xs->length ? a->length / (ks->length * xs->length) : 0;
+    lists++, listed += got > 256;
+    /* a refusal, or a list without an array, leaves the room as it was; and so does a room without a place */
+    return only_read() && got <= 256 + 65536 && (got > 256 && most ? 1 : as_lent(RESULT));
+}
+
 static int ring(int call)
 {
     uint32_t q = chance(2) ? 2 : 4, size = q * q * q, m = q * q - 1 + below(size - q * q + 1);
@@ -352,11 +382,12 @@ static int calls(double seconds, unsigned long seed)
     clock_gettime(CLOCK_MONOTONIC, &began);
     do {
         for (int i = 0; i < 100; i++, n++) {
-            int call = (int)below(4), by_powers = chance(6), in_trays = !by_powers && chance(12);
-            on_mark = by_powers || in_trays || !chance(3);
+            int call = (int)below(4), by_powers = chance(6), in_trays = !by_powers && chance(12),
+                in_lists = !by_powers && !in_trays && chance(12);
+            on_mark = by_powers || in_trays || in_lists || !chance(3);
             if (!on_mark && chance(4))
                 call = 4; /* a ring by its wrong symbols */
-            if (!(by_powers ? row() : in_trays ? tray() : on_mark ? mark(call) : ring(call))) {
+            if (!(by_powers ? row() : in_trays ? tray() : in_lists ? list() : on_mark ? mark(call) : ring(call))) {
                 printf("fuzz: seed %lu, call %lu: a number or a buffer is not as promised\n", seed, n);
                 return 1;
             }
@@ -373,6 +404,7 @@ static int calls(double seconds, unsigned long seed)
     unsigned long *e = marks_ended;
     printf("fuzz: %lu trays, %lu of them refused; marks: %lu corrected, %lu none, %lu several, %lu hollow, %lu refused\n", trays,
            trays_refused, e[1], e[2], e[3], e[4], e[0]);
+    printf("fuzz: %lu lists, %lu of them with arrays\n", lists, listed);
     return 0;
 }
 

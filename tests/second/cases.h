@@ -95,7 +95,7 @@ static void read_argument(void)
 static void read_call(void)
 {
     static const char *const calls[] = {"encode:",      "read:",             "decode:",      "ring encode:",   "ring read:",
-                                        "ring decode:", "ring decode lost:", "decode lost:", "decode powers:", "ring decode pits:",
+                                        "ring decode:", "ring decode lost:", "decode lost:", "decode powers:", "ring decode pits:", "list:",
                                         NULL};
     int factors_given = 0;
     memset(frame, 0, sizeof frame);
@@ -125,7 +125,8 @@ static void read_answer(char *line)
     static const struct {
         const char *word;
         uint32_t number;
-    } endings[] = {{"refused ", 0}, {"done", 256}, {"corrected ", 256}, {"none", 512}, {"several ", 768}, {"hollow ", 1024}};
+    } endings[] = {{"refused ", 0}, {"done", 256},    {"listed ", 256}, {"corrected ", 256},
+                 {"none", 512},   {"several ", 768}, {"hollow ", 1024}};
     enum { ENDINGS = sizeof endings / sizeof *endings };
     uint8_t result[MOST_SYMBOLS], flags[MOST_POINTS];
     size_t e = 0, zeros = 0;

@@ -9,7 +9,7 @@
 enum { FRAME = 610, LINE = 1200, SPACE_LESS = 49144, LENT_RESULT = 7, LENT_FLAGS = 9, LENT_SPACE = 1 };
 enum { K = 14, POWERS = 16, LENGTHS = 14, POINTS = 21, SYMBOLS = 118, LOST_COUNT = 503, LOST = 504, FACTOR_COUNT = 512, FACTORS = 513 };
 enum { MOST_LENGTHS = 7, MOST_POINTS = 97, MOST_SYMBOLS = 385, MOST_LOST = 8, MOST_FACTORS = 97 };
-enum { MARK_LOST = 7, RING_LOST = 6, MARK_POWERS = 8, RING_PITS = 9 };
+enum { MARK_LOST = 7, RING_LOST = 6, MARK_POWERS = 8, RING_PITS = 9, MARK_LIST = 10 };
 
 static uint8_t frame[FRAME];
 
@@ -77,6 +77,7 @@ static void answer(char *line)
     case MARK_POWERS:
         r = second_mark_decode_powers(first, number(K), number(POWERS), x, xs, h, c, limit, y, s, result, a, flags, f, space, w);
         break;
+    case MARK_LIST: r = second_mark_list(first, k, ks, x, xs, h, c, limit, y, s, result, a); break;
     default: r = second_mark_decode_lost(first, k, ks, x, xs, h, c, limit, lost, g, y, s, result, a, flags, f, space, w); break;
     }
     for (size_t i = 0; i < w; i++)

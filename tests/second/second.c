@@ -528,6 +528,101 @@ uint32_t second_mark_decode_lost(uint32_t degree, const uint8_t *lengths, size_t
     return endings_lost(degree, lengths, rows, points, columns, factors, limit, which, received, answer, flags);
 }
 
+/* ---- every array that fits */
+
+/* 'as for decoding, but 21, n above 16, after 3; 22, room that is not a whole number of arrays, directly after 5, which no longer reads the
+ * result's length'; 'Lent no flags or working space' */
+static unsigned list_check(uint32_t degree, const uint8_t *lengths, size_t rows, const uint8_t *points, size_t columns,
+                           const uint8_t *factors, size_t factor_count, uint32_t limit, const uint8_t *received,
+                           size_t received_length, size_t room_length)
+{
+    unsigned k = code_check(degree, lengths, rows, columns);
+    if (k == 1 || k == 2 || k == 3)
+        return k;
+    if (columns > 16)
+        return 21;
+    if (k)
+        return k;
+    if (received_length != rows * columns || factor_count != columns)
+        return 5;
+    if (room_length % (rows * columns))
+        return 22;
+    k = mark_check(degree, lengths, rows, points, columns, factors, factor_count, 1, received, received_length);
+    return k ? k : limit > second_joint_limit(lengths, rows, columns) ? 8 : 0;
+}
+
+/* Whether the columns that are not in the set are those of a code array, and which it is: row after row, from the equations of these
+ * columns alone. */
+static int fits_outside(unsigned degree, const uint8_t *lengths, size_t rows, const uint8_t *points, size_t columns,
+                        const uint8_t *factors, const uint8_t *received, const uint8_t *in_set, uint8_t *array)
+{
+    uint8_t xs[16], fs[16], row[16], message[MOST] = {0};
+    size_t left = 0, from = 0;
+    for (size_t l = 0; l < rows; l++) {
+        left = 0;
+        for (size_t i = 0; i < columns; i++)
+            if (!in_set[i])
+                xs[left] = points[i], fs[left] = factors[i], row[left++] = received[l * columns + i];
+        if (!row_polynomial(degree, lengths[l], xs, left, fs, row, message + from))
+            return 0;
+        from += lengths[l];
+    }
+    encode_rows(degree, lengths, rows, points, columns, factors, message, array);
+    return 1;
+}
+
+static int differ_in(size_t rows, size_t columns, const uint8_t *a, const uint8_t *b, size_t i)
+{
+    for (size_t l = 0; l < rows; l++)
+        if (a[l * columns + i] != b[l * columns + i])
+            return 1;
+    return 0;
+}
+
+/* The next set of as many columns in dictionary order of their numbers, which rise; 0 behind the last. */
+static int next_set(size_t *set, size_t size, size_t columns)
+{
+    size_t at = size;
+    while (at && set[at - 1] == columns - size + at - 1)
+        at--;
+    if (!at)
+        return 0;
+    set[at - 1]++;
+    for (; at < size; at++)
+        set[at] = set[at - 1] + 1;
+    return 1;
+}
+
+uint32_t second_mark_list(uint32_t degree, const uint8_t *lengths, size_t rows, const uint8_t *points, size_t columns,
+                          const uint8_t *factors, size_t factor_count, uint32_t limit, const uint8_t *received,
+                          size_t received_length, uint8_t *room, size_t room_length)
+{
+    unsigned k = list_check(degree, lengths, rows, points, columns, factors, factor_count, limit, received, received_length,
+                            room_length);
+    if (k)
+        return k;
+    uint8_t array[MOST];
+    size_t total = 0, symbols = rows * columns, set[16];
+    for (size_t size = 0; size <= limit; size++) {
+        for (size_t i = 0; i < size; i++)
+            set[i] = i;
+        do {
+            uint8_t in_set[16] = {0};
+            for (size_t i = 0; i < size; i++)
+                in_set[set[i]] = 1;
+            int fits = fits_outside(degree, lengths, rows, points, columns, factors, received, in_set, array);
+            for (size_t i = 0; fits && i < columns; i++)
+                fits = differ_in(rows, columns, received, array, i) == in_set[i];
+            if (!fits)
+                continue;
+            if ((total + 1) * symbols <= room_length)
+                memcpy(room + total * symbols, array, symbols);
+            total++;
+        } while (next_set(set, size, columns));
+    }
+    return (uint32_t)(256 + total);
+}
+
 /* ---- powers of one row */
 
 /* 'message lengths i(k−1)+1' */

@@ -14,7 +14,8 @@ unsigned second_inverse(unsigned degree, unsigned a);
 unsigned second_quotient(unsigned degree, unsigned a, unsigned b);
 
 /* The same parameters in the same order as the calls of grenhyrna.h, each answering the same number. Buffers are changed just as
- * 01 says, and with lost columns, powers, factors, trays and wrong symbols 02 (2026-03, 2026-09, 2026-11, 2026-01, 2026-06). */
+ * 01 says, and with lost columns, powers, factors, trays, wrong symbols and lists 02 (2026-03, 2026-09, 2026-11, 2026-01, 2026-06,
+ * 2026-10). */
 uint32_t second_mark_encode(uint32_t degree, const uint8_t *lengths, size_t rows, const uint8_t *points, size_t columns,
                             const uint8_t *factors, size_t factor_count, const uint8_t *message, size_t message_length,
                             uint8_t *array, size_t array_length);
@@ -56,6 +57,11 @@ uint32_t second_mark_decode_powers(uint32_t degree, uint32_t k, uint32_t powers,
                                    const uint8_t *factors, size_t factor_count, uint32_t limit, const uint8_t *received,
                                    size_t received_length, uint8_t *answer, size_t answer_length, uint8_t *flags,
                                    size_t flags_length, uint8_t *space, size_t space_length);
+
+/* Every array that fits. */
+uint32_t second_mark_list(uint32_t degree, const uint8_t *lengths, size_t rows, const uint8_t *points, size_t columns,
+                          const uint8_t *factors, size_t factor_count, uint32_t limit, const uint8_t *received,
+                          size_t received_length, uint8_t *room, size_t room_length);
 
 /* Limits of a code whose checks 1 to 4 pass; with lost columns, of the remaining ones. */
 unsigned second_joint_limit(const uint8_t *lengths, size_t rows, size_t columns);

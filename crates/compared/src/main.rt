@@ -2,7 +2,8 @@
 // of 610 bytes; numbers of two bytes have the low one first:
 //
 //   0           0, 1, 2 for encoding, reading and decoding a mark; 3, 4, 5 for a ring; 6 for decoding a ring with lost sectors, and 7
-//               a mark with lost columns; 8 for decoding a row by its powers; 9 for decoding a ring by its wrong symbols
+//               a mark with lost columns; 8 for decoding a row by its powers; 9 for decoding a ring by its wrong symbols; 10 for listing
+//               the arrays that fit a mark
 //   1, 2        the degree, or q
 //   3, 4        the trial limit
 //   5, 6        a ring's m
@@ -142,6 +143,9 @@ fn mark(
             flags,
             space,
         );
+    }
+    if call == 10 {
+        return firmware::gren_mark_list(degree, lengths, points, factors, limit, input, result);
     }
     firmware::gren_mark_decode_lost(
         degree,

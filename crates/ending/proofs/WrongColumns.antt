@@ -43,7 +43,7 @@ rootFlags c E = flagsFrom (rootAt c E) 0 (columns c)
 abbrev pub rootCount : Code → List ℕ → ℕ
 rootCount c E = total (rootFlags c E)
 
-all-mem : {K : Type 0} (P : K → Type 0) (l : List K) (a : K) → All P l → Mem a l → P a
+pub all-mem : {K : Type 0} (P : K → Type 0) (l : List K) (a : K) → All P l → Mem a l → P a
 all-mem P (b ∷ l) a h (inl e) = subst P (sym e) (h .0)
 all-mem P (b ∷ l) a h (inr m) = all-mem P l a (h .1) m
 

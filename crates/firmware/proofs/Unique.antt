@@ -3,7 +3,7 @@
 --
 --   returns-unique    where no two ends of the call keep its promise, neither do two numbers
 --   mark-encode, mark-read, mark-decode, ring-encode, ring-read, ring-decode, mark-decode-lost, ring-decode-lost, ring-decode-pits,
---   mark-decode-powers, tray-decode    so of each function
+--   mark-decode-powers, mark-list, tray-decode    so of each function
 -- Assumes nothing.
 use mathlib.Core.Path.{_≡_, sym, ap, _∙_}
 use mathlib.Core.List.{List}
@@ -22,6 +22,9 @@ use Rattle.joint.specs.Lost as joint-lost
 use Rattle.joint.proofs.LostDemands as joint-losing
 use Rattle.powers.specs.Promises as powered
 use Rattle.powers.proofs.Unique as powers-unique
+use Rattle.listing.specs.Promises as listed
+use Rattle.listing.specs.declared.Answer.{Answer}
+use Rattle.listing.proofs.Unique as listing-unique
 use Rattle.tray.specs.Promises.{GivenTray, LeftTray, leftTray, DecodesTray}
 use Rattle.tray.proofs.Unique as tray-unique
 use Rattle.ring.specs.Promises as rings
@@ -73,6 +76,16 @@ pub mark-decode : (g : joint.Given) {r r′ : ℕ} {b b′ : Kept} → Returns e
 mark-decode g =
     returns-unique endingMeaning (λ (e : Ending) (b : Kept). joint.Decodes g (ended e b))
     (λ e e′ b b′ h h′. ended-parts (joint-unique.unique g (ended e b) (ended e′ b′) h h′))
+
+pub mark-list : (D : Description) (τ : ℕ) (y lent : List ℕ) {r r′ : ℕ} {b b′ : List ℕ}
+    → Returns listed.meaning (λ (a : Answer). listed.Lists D τ y lent (listed.left a b)) r
+    → Returns listed.meaning (λ (a : Answer). listed.Lists D τ y lent (listed.left a b′)) r′ → (r ≡ r′) × (b ≡ b′)
+mark-list D τ y lent =
+    returns-unique listed.meaning (λ (a : Answer) (b : List ℕ). listed.Lists D τ y lent (listed.left a b))
+    (λ a a′ b b′ h h′. let same = listing-unique.unique D τ y lent (listed.left a b) (listed.left a′ b′) h h′ in (
+      listing-unique.meaning-faithful a a′ (ap (λ (x : listed.Left). x .answer) same),
+      ap (λ (x : listed.Left). x .room) same,
+    ))
 
 pub ring-encode : (q m : ℕ) (f lent : List ℕ) {r r′ : ℕ} {b b′ : List ℕ}
     → Returns meaning (λ (o : Outcome). rings.Encodes q m f lent (left o b)) r

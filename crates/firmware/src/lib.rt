@@ -1,5 +1,6 @@
 // The C interface: the calls on marks, trays and rings, with their answers as one number. include/grenhyrna.h is for its callers.
 ghost use mathlib.Core.Path.{_≡_};
+ghost use Prim.Native.Nat.{ℕ, _≤_};
 ghost use Rattle.refusal.specs.Meaning.{packed};
 ghost use Rattle.firmware.specs.Returns.{Returns};
 ghost use Rattle.codes.specs.Factors.{descriptionOf};
@@ -8,12 +9,15 @@ ghost use Rattle.ending.specs.Endings.{meaning as endingMeaning};
 ghost use Rattle.joint.specs.Promises.{Decodes, buffers, given, left as ended};
 ghost use Rattle.joint.specs.Lost.{DecodesLost};
 ghost use Rattle.powers.specs.Promises as powered;
+ghost use Rattle.listing.specs.Promises as listed;
+ghost use Rattle.listing.specs.declared.Answer.the-variants.{Total};
 ghost use Rattle.tray.specs.Promises.{DecodesTray, givenTray, leftTray};
 ghost use Rattle.ring.specs.Promises as rings;
 ghost use Rattle.sectors.specs.Promises as sectors;
 ghost use Rattle.sectors.specs.Lost as sectors-lost;
 ghost use Rattle.scattered.specs.Promises as scattered;
 use ending::Ending;
+use listing::Answer;
 use mark::Outcome;
 
 // The number of an outcome: 256, or the number of the refusal.
@@ -36,6 +40,17 @@ fn pack(ending: Ending) -> u32
         Ending::Nothing => 512,
         Ending::Several(t) => 768 + t as u32,
         Ending::Hollow(t) => 1024 + t as u32,
+    }
+}
+
+// The number of a listing's answer: 256 and the total, or the number of the refusal.
+fn total(answer: Answer) -> u32
+    requires { ⌜ ((t : ℕ) → answer ≡ Total t → t ≤ 16777216) ⌝ }
+    ensures { λ r. ⌜ r ≡ packed (listed.meaning answer) ⌝ }
+{
+    match answer {
+        Answer::Total(t) => 256 + t,
+        Answer::Refused(k) => k as u32,
     }
 }
 
@@ -168,6 +183,23 @@ pub extern "C" fn gren_mark_decode_powers(
         flags,
         space,
     ))
+}
+
+// Lists every code array within the trial limit of a received one.
+#[no_mangle]
+pub extern "C" fn gren_mark_list(
+    degree: u32,
+    lengths: &[u8],
+    points: &[u8],
+    factors: &[u8],
+    limit: u32,
+    received: &[u8],
+    room: &mut [u8],
+) -> u32
+    ensures { λ r. ⌜ Returns listed.meaning (λ a. listed.Lists (descriptionOf degree (now (points .entry)) (now (factors .entry))
+        (now (lengths .entry))) limit (now (received .entry)) (now (room .entry)) (listed.left a (now (room .exit)))) r ⌝ }
+{
+    total(listing::list(degree, lengths, points, factors, limit, received, room))
 }
 
 // Decodes a tray of marks of one code; each mark's answer is its own number.

@@ -5,6 +5,7 @@
 --   encode-refused                  otherwise it answers the first check's number, and leaves the buffer as lent
 --   read-done, read-message         reading is done exactly when no check applies and the array is a code array, with its message
 --   read-refused                    otherwise it answers the first check's number, or 9, and leaves the buffer as lent
+--   array-passes                    an array of the code passes the checks of reading
 --   read-written                    reading what encoding wrote gives the message back
 --   one-to-one                      no array is written for two messages: an encoder that writes one fixed array is shut out
 --   nothing-written                 P3: an encoder that writes nothing is shut out
@@ -70,7 +71,8 @@ module _ (D : Description) (a lent : List ℕ) where
     read-refused = find-refused (readChecks D a lent) (IsMessage (D .code)) (encodedBy D) a lent x h
 
 -- an array of the code passes the checks of reading, with a buffer of the right length
-array-passes : (D : Description) (a lent : List ℕ) → Proper (D .code) → Factors D → 0 ≡ first (codeChecks (D .code)) → IsArray (D .code) a
+pub array-passes : (D : Description) (a lent : List ℕ) → Proper (D .code) → Factors D → 0 ≡ first (codeChecks (D .code))
+    → IsArray (D .code) a
     → length lent ≡ total (D .code .lengths) → first (readChecks D a lent) ≡ 0
 unfolding first
 array-passes D a lent p h z i e =

@@ -1,0 +1,4 @@
+pub mod Passed
+pub mod Listed
+pub mod Unique
+pub mod Demands
