@@ -3,6 +3,7 @@
 --   enough    the answer to the bytes at hand is the answer to all that is left, once there are as many as are wanted
 --   all-held  where the record is whole, as many bytes are at hand as are wanted
 --   rest-of   and where no more are, the next one begins behind them
+--   same-mark, at, part, same-size, same-range    what stands in five bytes or more stands in more
 --   no-more   where no more bytes come than were wanted, no more are held than are then wanted
 -- Assumes nothing.
 use mathlib.Core.Path.{_≡_, refl, sym, ap, ap₂, _∙_, subst}
@@ -28,7 +29,7 @@ use Rattle.record.proofs.Heads.{wants-all}
 use Rattle.record.proofs.Wholes.{whole-of}
 use Rattle.record.proofs.Replies.{Line, stopped}
 
-same-mark : (b rest : List ℕ) → 2 ≤ length b → noMark (b ++ rest) ≡ noMark b
+pub same-mark : (b rest : List ℕ) → 2 ≤ length b → noMark (b ++ rest) ≡ noMark b
 unfolding noMark begins
 same-mark [] rest h = absurd (omega arith)
 same-mark (x ∷ []) rest h = absurd (omega arith)
@@ -55,14 +56,14 @@ unfolding stopOf outOfRange checks
 stop-is b = refl
 
 module _ (b rest : List ℕ) (five : 5 ≤ length b) where
-  at : (i : ℕ) → i < 5 → getD (b ++ rest) i 0 ≡ getD b i 0
+  pub at : (i : ℕ) → i < 5 → getD (b ++ rest) i 0 ≡ getD b i 0
   at i h = List·getD-append b rest 0 i (omega arith)
 
-  same-size : sizeIn (b ++ rest) ≡ sizeIn b
+  pub same-size : sizeIn (b ++ rest) ≡ sizeIn b
   unfolding sizeIn
   same-size = ap₂ (λ (r n : ℕ). 6 + r + n + r * n) (at 3 (omega arith)) (at 4 (omega arith))
 
-  same-range : outOfRange (b ++ rest) ≡ outOfRange b
+  pub same-range : outOfRange (b ++ rest) ≡ outOfRange b
   unfolding outOfRange
   same-range = ap₂ (λ (r n : ℕ). outside 1 4 r || outside 1 96 n) (at 3 (omega arith)) (at 4 (omega arith))
 
@@ -84,7 +85,7 @@ module _ (b rest : List ℕ) (five : 5 ≤ length b) where
       let e′ = stop-is b in
       cc
 
-  part : (n k : ℕ) → n + k ≤ length b → take k (drop n (b ++ rest)) ≡ take k (drop n b)
+  pub part : (n k : ℕ) → n + k ≤ length b → take k (drop n (b ++ rest)) ≡ take k (drop n b)
   part n k h =
       ap (take k) (drop-append-le n b rest (omega arith)) ∙ take-append-le k (drop n b) rest (omega (arith, length-drop n b))
 

@@ -7,19 +7,21 @@
 --   Room m fs out at               at most 96 flags, and room for m bytes from `at` on
 --   followed s cs                  columns behind the byte s, joined by commas
 --   fieldsOf e fs                  the fields of a line behind its number, each behind a space
---   Decodable b out                b begins with a whole record, and there is room for its line
---   Decoded number g lent left r   the line of the record whose decoding is given g, at the buffer's front, and its length r
+--   Decodable b array flags        b begins with a whole record, and the buffers for its array and flags are of zeros
+--   Decoded w b e array flags      decoded in the space w it ends as e, with array and flags at the buffers' front
+--   Lined b out                    b begins with a whole record, and there is room for its line
+--   Written number g lent left r   the line of the record whose decoding is given g, at the buffer's front, and its length r
 use mathlib.Core.Path.{_≡_}
 use mathlib.Core.Bool.{false}
 use mathlib.Core.List.{List, [], _∷_, _++_}
-use Prim.Native.Nat.{ℕ, _+_, _≤_}
-use lib.ListN.{length}
+use Prim.Native.Nat.{ℕ, _+_, _*_, _≤_}
+use lib.ListN.{length, take, replicate}
 use Rattle.patch.specs.Parts.{lay}
 use Rattle.ending.specs.declared.Ending.{Ending}
-use Rattle.joint.specs.Promises.{Given}
-use Rattle.record.specs.Records.{outOfRange, stopOf}
+use Rattle.joint.specs.Promises.{Given, Decodes, buffers, left}
+use Rattle.record.specs.Records.{rowsIn, columnsIn, outOfRange, stopOf}
 use Rattle.record.specs.Lines.{ascii, decimal, word, detail, wrongColumns, joined}
-use Rattle.record.specs.Promises.{LineOf}
+use Rattle.record.specs.Promises.{LineOf, recordIn}
 
 pub record Headed (b : List ℕ) : Type 0 where
   pub five : 5 ≤ length b
@@ -47,11 +49,20 @@ followed s (c ∷ cs) = (s ∷ decimal c) ++ followed 44 cs
 unfoldable pub fieldsOf : Ending → List ℕ → List ℕ
 fieldsOf e fs = ascii " " ++ word e ++ ascii " " ++ detail e ++ ascii " " ++ joined (wrongColumns e fs)
 
-pub record Decodable (b out : List ℕ) : Type 0 where
+pub record Decodable (b array flags : List ℕ) : Type 0 where
+  pub whole : stopOf b ≡ 0
+  pub array-zero : array ≡ replicate 384 0
+  pub flags-zero : flags ≡ replicate 96 0
+
+pub record Decoded (w b : List ℕ) (e : Ending) (array flags : List ℕ) : Type 0 where
+  pub space : List ℕ
+  pub decodes : Decodes (recordIn w b) (left e (buffers (take (rowsIn b * columnsIn b) array) (take (columnsIn b) flags)) space)
+
+pub record Lined (b out : List ℕ) : Type 0 where
   pub whole : stopOf b ≡ 0
   pub room : 323 ≤ length out
 
-pub record Decoded (number : ℕ) (g : Given) (lent left : List ℕ) (r : ℕ) : Type 0 where
+pub record Written (number : ℕ) (g : Given) (lent left : List ℕ) (r : ℕ) : Type 0 where
   pub line : List ℕ
   pub of-record : LineOf number g line
   pub puts : Puts lent 0 line left r

@@ -1,12 +1,12 @@
 // Records: one parsed, decoded, and its line written, all on slices.
-mod parts;
-mod text;
+pub mod parts;
+pub mod text;
 
 ghost use Rattle.io.specs.Counts.{Counts};
 ghost use Rattle.refusal.specs.Meaning.{detailOf};
 ghost use Rattle.record.specs.Records.{AtMost, wanted};
 ghost use Rattle.record.specs.Promises.{Answers, meaning, recordIn};
-ghost use Rattle.record.specs.Working.{Decodable, Decoded};
+ghost use Rattle.record.specs.Working.{Decodable, Decoded, Lined, Written};
 use array_checks::SPACE;
 use array_checks::wide;
 use ending::Ending;
@@ -38,19 +38,17 @@ pub fn wanted(bytes: &[u8]) -> usize
     parts::size(bytes)
 }
 
-// Decodes a whole record in the working space lent, and writes its line.
-fn decode(number: u64, bytes: &[u8], out: &mut [u8], space: &mut [u8]) -> usize
-    requires { ⌜ Decodable (now bytes) (now out) ⌝ }
-    ensures { λ r. ⌜ Decoded number (recordIn (now (space .entry)) (now (bytes .entry))) (now (out .entry)) (now (out .exit)) r ⌝ }
+// Decodes a whole record in the working space lent; its array and flags stand at the front of the buffers.
+pub fn decode(bytes: &[u8], array: &mut [u8], flags: &mut [u8], space: &mut [u8]) -> Ending
+    requires { ⌜ Decodable (now bytes) (now array) (now flags) ⌝ }
+    ensures { λ r. ⌜ Decoded (now (space .entry)) (now (bytes .entry)) r (now (array .exit)) (now (flags .exit)) ⌝ }
 {
     let r = wide(bytes[3]);
     let n = wide(bytes[4]);
     let points = 6 + r;
     let symbols = points + n;
-    let mut array = [0u8; 384];
-    let mut flags = [0u8; 96];
     let ones = [1u8; 96];
-    let ending = joint::decode(
+    joint::decode(
         bytes[2] as u32,
         &bytes[5..5 + r],
         &bytes[points..symbols],
@@ -60,7 +58,18 @@ fn decode(number: u64, bytes: &[u8], out: &mut [u8], space: &mut [u8]) -> usize
         &mut array[..r * n],
         &mut flags[..n],
         space,
-    );
+    )
+}
+
+// Decodes a whole record in the working space lent, and writes its line.
+fn decode_line(number: u64, bytes: &[u8], out: &mut [u8], space: &mut [u8]) -> usize
+    requires { ⌜ Lined (now bytes) (now out) ⌝ }
+    ensures { λ r. ⌜ Written number (recordIn (now (space .entry)) (now (bytes .entry))) (now (out .entry)) (now (out .exit)) r ⌝ }
+{
+    let n = wide(bytes[4]);
+    let mut array = [0u8; 384];
+    let mut flags = [0u8; 96];
+    let ending = decode(bytes, &mut array, &mut flags, space);
     text::put_line(out, number, ending, &flags[..n])
 }
 
@@ -78,5 +87,5 @@ pub fn answer(number: u64, bytes: &[u8], out: &mut [u8; 323]) -> Reply
         return Reply::Last(text::put_line(out, number, Ending::Refused(k), &bytes[..0]));
     }
     let mut space = [0u8; SPACE];
-    Reply::Next(decode(number, bytes, out, &mut space))
+    Reply::Next(decode_line(number, bytes, out, &mut space))
 }

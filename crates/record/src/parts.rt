@@ -34,7 +34,7 @@ pub(crate) fn out_of_range(bytes: &[u8]) -> bool
 }
 
 // How many bytes the record has.
-pub(crate) fn size(bytes: &[u8]) -> usize
+pub fn size(bytes: &[u8]) -> usize
     requires { ⌜ Headed (now bytes) ⌝ }
     ensures { λ r. ⌜ AtMost 490 (sizeIn (now (bytes .entry))) r ⌝ }
 {
@@ -44,7 +44,7 @@ pub(crate) fn size(bytes: &[u8]) -> usize
 }
 
 // The number of the first reason to stop that applies, 0 where none does.
-pub(crate) fn stop(bytes: &[u8]) -> u8
+pub fn stop(bytes: &[u8]) -> u8
     ensures { λ r. ⌜ r ≡ stopOf (now (bytes .entry)) ⌝ }
 {
     if no_mark(bytes) {

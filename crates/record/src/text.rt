@@ -7,7 +7,7 @@ ghost use Rattle.record.specs.Working.{Puts, PutsField, PutsWithin, Room
 use ending::Ending;
 
 // Writes a text.
-fn put_text(out: &mut [u8], at: usize, text: &[u8]) -> usize
+pub fn put_text(out: &mut [u8], at: usize, text: &[u8]) -> usize
     requires { ⌜ at + length (now text) ≤ length (now out) ⌝ }
     ensures { λ r. ⌜ Puts (now (out .entry)) at (now (text .entry)) (now (out .exit)) r ⌝ }
 {
@@ -16,7 +16,7 @@ fn put_text(out: &mut [u8], at: usize, text: &[u8]) -> usize
 }
 
 // Writes a number in decimal.
-fn put_number(out: &mut [u8], at: usize, n: u64) -> usize
+pub fn put_number(out: &mut [u8], at: usize, n: u64) -> usize
     requires { ⌜ at + length (decimal n) ≤ length (now out) ⌝ }
     ensures { λ r. ⌜ Puts (now (out .entry)) at (decimal n) (now (out .exit)) r ⌝ }
 {
@@ -26,7 +26,7 @@ fn put_number(out: &mut [u8], at: usize, n: u64) -> usize
 }
 
 // Writes a column behind a space or a comma.
-fn put_column(out: &mut [u8], at: usize, gap: u8, column: usize) -> usize
+pub fn put_column(out: &mut [u8], at: usize, gap: u8, column: usize) -> usize
     requires { ⌜ at + length (gap ∷ decimal column) ≤ length (now out) ⌝ }
     ensures { λ r. ⌜ Puts (now (out .entry)) at (gap ∷ decimal column) (now (out .exit)) r ⌝ }
 {

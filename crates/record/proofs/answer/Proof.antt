@@ -23,7 +23,7 @@ start c = c .before .before .before
 abbrev stopped : tie.After-put-line → tie.Then2
 stopped c = c .before .before .before
 
-abbrev whole : tie.After-decode → tie.Else2
+abbrev whole : tie.After-decode-line → tie.Else2
 whole c = c .before .before .before
 
 returns-2 : tie.Need-returns-2
@@ -40,10 +40,10 @@ unfolding fresh
 returns-3 c = let d = c .before in
     let at = whole d .before in
     let s = start at .args in
-    let line = d .decode .ensures in (
+    let line = d .decode-line .ensures in (
       answers-next (s .number) (s .out .now) (s .bytes .now) (line .line) (at .before .if1 .left)
           (sym (at .stop .ensures) ∙ whole d .if2 .left) (line .of-record) (line .puts),
-      counts _ _ (omega (arith, line .most, d .decode .kept)),
+      counts _ _ (omega (arith, line .most, d .decode-line .kept)),
     )
 
 pub answer-spec : {M : Type 1} → statement M

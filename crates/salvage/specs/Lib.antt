@@ -1,0 +1,4 @@
+pub mod Pieces
+pub mod Listing
+pub mod Promises
+pub mod Working
