@@ -1,4 +1,3 @@
-pub mod Decisions
 pub mod Cleared
 pub mod Struck
 pub mod Lost

@@ -1,6 +1,4 @@
 // Joint decoding of interleaved arrays.
-mod ends;
-
 ghost use mathlib.Core.Path.{_≡_};
 ghost use mathlib.Core.Bool.{true};
 ghost use mathlib.Core.List.{List};
@@ -70,7 +68,7 @@ fn work_whole(
     let mut wrong = [0u8; 96];
     let mut own = [0u8; 384];
     bytes::copy(points, &mut held);
-    let ending = ends::end(
+    let ending = judging::end(
         table,
         degree,
         lengths,

@@ -1,4 +1,5 @@
-// How a decoding ends: from the conditions of the received array to the ending, with the answer in buffers of our own.
+// The lines of the solver judged: how a decoding ends, from the conditions of the received array to the ending, with the answer in
+// buffers of our own.
 ghost use mathlib.Core.Path.{_≡_};
 ghost use mathlib.Core.Bool.{true, false};
 ghost use mathlib.Core.List.{List};
@@ -133,9 +134,9 @@ fn locate(
     )
 }
 
-// How the decoding of a received array ends, ws being empty or the inverses of its longest row's rounds. A code array is its own
-// answer, and the flags, which come as zeros, are its flags.
-pub(crate) fn end(
+// For the crates above: how the decoding of a received array ends, ws being empty or the inverses of its longest row's rounds. A code
+// array is its own answer, and the flags, which come as zeros, are its flags.
+pub fn end(
     table: &Table,
     degree: u32,
     lengths: &[u8],

@@ -1,4 +1,4 @@
--- `ends::another_within` reads the lead of the line that the scan finds.
+-- `another_within` reads the lead of the line that the scan finds.
 -- Assumes nothing.
 use mathlib.Core.Path.{sym}
 use mathlib.Core.Bool.{true≢false}
@@ -7,10 +7,10 @@ use native.Mathlib.Nat.{mul-le-mul}
 use native.Mathlib.Omega.{arith}
 use lib.ListN.{length}
 use borrow.Author.Tests.{leb-true, leb-false}
-use Rattle.joint.proofs.Decisions.{beyond-none, beyond-lead}
+use Rattle.judging.proofs.Decisions.{beyond-none, beyond-lead}
 use borrow.Author.Needs.{needs}
-use Rattle.joint.proofs.ends.another_within.Statement.{statement}
-use Rattle.joint.proofs.ends.another_within.Tie as tie
+use Rattle.judging.proofs.another_within.Statement.{statement}
+use Rattle.judging.proofs.another_within.Tie as tie
 
 another-requires : tie.Need-another-requires
 another-requires c κs = search needs

@@ -1,6 +1,6 @@
--- `ends::end` answers a code array with itself, and has the rest located.
+-- `end` answers a code array with itself, and has the rest located.
 -- Assumes nothing.
-use mathlib.Core.Path.{_≡_, sym, ap, ap₂, _∙_, subst}
+use mathlib.Core.Path.{_≡_, sym, ap, _∙_, subst}
 use mathlib.Core.List.{List}
 use Prim.Native.Nat.{ℕ, _≤_}
 use native.Mathlib.Omega.{arith}
@@ -13,12 +13,11 @@ use Rattle.ending.specs.Endings.{Ends, Corrects}
 use Rattle.ending.proofs.Model.{Outcome}
 use Rattle.ending.proofs.ModelEnds.{model-ends}
 use Rattle.ending.proofs.ModelCode.{code-ends}
-use Rattle.joint.specs.Promises.{buffers}
 use Rattle.conditions.specs.Working.{reducedPoints, reducedValues}
 use Rattle.conditions.proofs.Reduced.{most-points, length-values, all-reduced}
 use borrow.Author.Needs.{needs}
-use Rattle.joint.proofs.ends.end.Statement.{statement}
-use Rattle.joint.proofs.ends.end.Tie as tie
+use Rattle.judging.proofs.end.Statement.{statement}
+use Rattle.judging.proofs.end.Tie as tie
 
 abbrev code : tie.Start → Code
 code c = codeOf (c .args .degree) (c .args .points .now) (c .args .lengths .now)
@@ -79,7 +78,7 @@ returns c = λ lent.
     let array = take-lay (y o) (a .array .now) (c .before .before .store .ensures) (p .0 .received .count)
     (omega (arith, p .0 .counts .cells, p .1 .1 .0 .1)) in
     let flags = ap (take (length (xs o))) (p .1 .1 .0 .2) ∙ take-replicate (length (xs o)) 96 0 (p .0 .counts .most-columns) in
-    subst (Corrects (code (start o)) (y o) (a .limit) 0) (ap₂ buffers (sym array) (sym flags))
+    subst (Corrects (code (start o)) (y o) (a .limit) 0) (λ i. record { array = sym array i; flags = sym flags i })
     (code-ends (p .0 .proper) (p .0 .received) zeros (a .limit) lent)
 
 locate-requires : tie.Need-locate-requires

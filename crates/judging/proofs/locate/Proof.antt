@@ -1,4 +1,4 @@
--- `ends::locate` has the solver run on the conditions, and decides on its lines.
+-- `locate` has the solver run on the conditions, and decides on its lines.
 -- Assumes nothing.
 use mathlib.Core.Path.{_≡_, sym, ap, _∙_, subst, subst₂}
 use mathlib.Core.List.{List}
@@ -16,10 +16,10 @@ use Rattle.ending.proofs.Model.{rowsOf, linesOf}
 use Rattle.ending.proofs.ModelRows.{rows-count}
 use Rattle.conditions.specs.Working.{reducedPoints, reducedValues}
 use Rattle.conditions.proofs.Reduced.{most-points, points-symbols, values-symbols, length-values, counts-front}
-use Rattle.joint.proofs.Decisions.{solved-rows}
+use Rattle.judging.proofs.Decisions.{solved-rows}
 use borrow.Author.Needs.{needs}
-use Rattle.joint.proofs.ends.locate.Statement.{statement}
-use Rattle.joint.proofs.ends.locate.Tie as tie
+use Rattle.judging.proofs.locate.Statement.{statement}
+use Rattle.judging.proofs.locate.Tie as tie
 
 module _ (c : tie.Start) where
   abbrev d : ℕ
