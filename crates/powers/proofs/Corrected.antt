@@ -31,10 +31,11 @@ use Rattle.codes.proofs.Limits.{Room, joint-room}
 use Rattle.ending.specs.Locators.{RowsDivide}
 use Rattle.ending.specs.Endings.{Buffers, Corrects}
 use Rattle.ending.proofs.Rows.{poly-product, fits-unique, fits-product}
-use Rattle.powers.specs.Powers.{powerLength, powerLengths, powerRow, powerRows, rowCode, powerCode, powerOf, powersOf}
-use Rattle.powers.specs.Working.{powerLengthsFrom, powerRowsFrom, powersFrom, Row, Shape}
+use Rattle.power_checks.specs.Powers.{powerLength, powerLengths, powerRow, powerRows, rowCode, powerCode, powerOf, powersOf}
+use Rattle.power_checks.specs.Working.{powerLengthsFrom}
+use Rattle.power_checks.proofs.Sizes.{length-one}
+use Rattle.powers.specs.Working.{powerRowsFrom, powersFrom, Row, Shape}
 use Rattle.powers.proofs.Polynomials.{power-symbols, poly-power, value-power, encoded-powers, powers-message}
-use Rattle.powers.proofs.Sizes.{length-one}
 use Rattle.powers.proofs.Rows.{length-row, getD-row, row-in, first-power, other-powers, first-row, flags-powers}
 
 module _ {d : ℕ} {xs : List ℕ} {k s : ℕ} (h : Shape d xs k s) where

@@ -50,13 +50,14 @@ use Rattle.joint.specs.Promises.{Left, buffers}
 use Rattle.joint.specs.Promises as Joint
 use Rattle.joint.proofs.Halves as halves
 use Rattle.joint.proofs.Struck.{struck-never, struck-others}
-use Rattle.powers.specs.Powers.{powerRow, powerRows, rowCode, powerCode, powersOf}
-use Rattle.powers.specs.Checks.{decodeChecks}
+use Rattle.power_checks.specs.Powers.{powerRow, powerRows, rowCode, powerCode, powersOf}
+use Rattle.power_checks.specs.Checks.{decodeChecks}
+use Rattle.power_checks.proofs.Passed.{power-counts, power-checked}
 use Rattle.powers.specs.Promises.{PowerEnds, EndsAs, Decodes}
 use Rattle.powers.specs.Working.{Row, Ready}
 use Rattle.powers.proofs.Polynomials.{raised-over}
 use Rattle.powers.proofs.Rows.{rows-array}
-use Rattle.powers.proofs.Passed.{Passed, power-counts, power-checked}
+use Rattle.powers.proofs.Passed.{Passed}
 use Rattle.powers.proofs.Corrected.{row-proper, row-array, rows-are-powers, corrected-rows, corrected-word, corrected-first}
 use Rattle.powers.proofs.Corrected.{power-flags, power-nearest, power-far, power-near}
 use Rattle.powers.proofs.Ended.{power-others, ends-unique, joint-ended}

@@ -30,7 +30,7 @@ use Rattle.joint.specs.Lost.{LostEnds}
 use Rattle.joint.specs.Working.{ReadyLost, StruckEnds}
 use Rattle.joint.proofs.Struck.{kept-else, ones-struck}
 use Rattle.joint.proofs.Lost.{whole-ready, none-ends, corrected-array}
-use Rattle.powers.specs.Powers.{powerRows, powerCode}
+use Rattle.power_checks.specs.Powers.{powerRows, powerCode}
 use Rattle.powers.specs.Promises.{PowerEnds, EndsAs}
 use Rattle.powers.specs.Working.{Row, Shape, Ready}
 use Rattle.powers.proofs.Rows.{rows-array}

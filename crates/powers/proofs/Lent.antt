@@ -1,16 +1,12 @@
 -- What the call on the s rows is lent, and what becomes of it.
 --
---   front-room     a list that begins with s numbers has them
 --   first-part     the first row of the answer, in the list that it was lent from
 -- Assumes nothing.
 use mathlib.Core.Path.{_≡_, refl, ap, _∙_}
 use mathlib.Core.List.{List, [], _∷_, _++_}
 use Prim.Native.Nat.{ℕ, zero, suc, _-_, _≤_}
 use native.Mathlib.Omega.{arith}
-use lib.ListN.{length, take, length-take}
-
-pub front-room : (s : ℕ) (r : List ℕ) {v : List ℕ} → take s r ≡ v → length v ≡ s → s ≤ length r
-front-room s r e k = omega (arith, length-take s r, ap length e)
+use lib.ListN.{length, take}
 
 part-of : (n : ℕ) (b r : List ℕ) → n ≤ length b → take n (b ++ r) ≡ take n b
 part-of zero b r h = refl

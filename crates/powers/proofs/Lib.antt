@@ -1,5 +1,4 @@
 pub mod Polynomials
-pub mod Sizes
 pub mod Rows
 pub mod Raising
 pub mod Lent

@@ -26,8 +26,9 @@ use Rattle.poly.proofs.Values.{value-const, value-mul}
 use Rattle.codes.specs.Code.{IsMessage, total, encodedRows, encoded, upFrom}
 use Rattle.codes.proofs.Parts.{all-append}
 use Rattle.codes.proofs.Factors.{Factor}
-use Rattle.powers.specs.Powers.{powerLength, powerRow, powerRows, powerCode, powerOf, powersOf}
-use Rattle.powers.specs.Working.{powerLengthsFrom, powerRowsFrom, powersFrom}
+use Rattle.power_checks.specs.Powers.{powerLength, powerRow, powerRows, powerCode, powerOf, powersOf}
+use Rattle.power_checks.specs.Working.{powerLengthsFrom}
+use Rattle.powers.specs.Working.{powerRowsFrom, powersFrom}
 
 -- a product of products
 exchange : {K : Type 0} (A : Arithmetic K) (𝓕 : Field A) (a b u v : K) {w : K} → A .times u v ≡ w

@@ -23,7 +23,7 @@ use Rattle.field.proofs.Sums.{plus-zero}
 use Rattle.lists.specs.Working.Lists.{SymbolsAt, multiplied, multipliedAt}
 use Rattle.codes.proofs.Parts.{all-at}
 use Rattle.codes.specs.Code.{upFrom}
-use Rattle.powers.specs.Powers.{powerRow, powerRows}
+use Rattle.power_checks.specs.Powers.{powerRow, powerRows}
 use Rattle.powers.specs.Working.{powerRowsFrom, Raising}
 use Rattle.powers.proofs.Rows.{length-row, getD-row, row-in, row-one, length-rows}
 

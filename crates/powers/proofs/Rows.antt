@@ -26,10 +26,10 @@ use Rattle.poly.specs.Poly.{All}
 use Rattle.codes.specs.Code.{IsArray, differs, differsAt, flagsOf, upFrom}
 use Rattle.codes.proofs.Parts.{all-append, all-at}
 use Rattle.codes.proofs.Flags.{flags-same}
-use Rattle.powers.specs.Powers.{powerRow, powerRows, rowCode, powerCode}
+use Rattle.power_checks.specs.Powers.{powerRow, powerRows, rowCode, powerCode}
+use Rattle.power_checks.proofs.Sizes.{length-powers}
 use Rattle.powers.specs.Working.{powerRowsFrom, Row}
 use Rattle.powers.proofs.Polynomials.{raised-in, raised-one}
-use Rattle.powers.proofs.Sizes.{length-powers}
 
 module _ (d : ℕ) where
   pub length-row : (i : ℕ) (z : List ℕ) → length (powerRow d i z) ≡ length z

@@ -15,7 +15,7 @@ use Rattle.ending.specs.Endings.{Buffers}
 use Rattle.joint.specs.Promises.{Left}
 use Rattle.joint.proofs.Promised as promised
 use Rattle.joint.proofs.Struck.{struck-unique}
-use Rattle.powers.specs.Checks.{decodeChecks}
+use Rattle.power_checks.specs.Checks.{decodeChecks}
 use Rattle.powers.specs.Promises.{Decodes}
 use Rattle.powers.specs.Working.{Row}
 use Rattle.powers.proofs.Corrected.{row-proper, row-array}

@@ -1,4 +1,2 @@
-pub mod Powers
-pub mod Checks
 pub mod Promises
 pub mod Working

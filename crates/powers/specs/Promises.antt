@@ -12,8 +12,8 @@ use Rattle.codes.specs.Factors.{descriptionOf}
 use Rattle.ending.specs.Endings.{Buffers, Ends}
 use Rattle.ending.specs.declared.Ending.{Ending}
 use Rattle.joint.specs.Promises.{Left, Decoding, Struck, onCorrected}
-use Rattle.powers.specs.Powers.{powerCode, powerRows}
-use Rattle.powers.specs.Checks.{decodeChecks}
+use Rattle.power_checks.specs.Powers.{powerCode, powerRows}
+use Rattle.power_checks.specs.Checks.{decodeChecks}
 
 -- 'and decode them jointly': the table of 01 for the rows; 'then the first row is returned'; 'the other endings are passed through'
 pub record PowerEnds (d : ℕ) (xs : List ℕ) (k s : ℕ) (z : List ℕ) (τ : ℕ) (lent : Buffers) (e : Ending) (left : Buffers) : Type 0 where

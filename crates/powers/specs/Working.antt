@@ -1,17 +1,14 @@
 -- What the functions inside ask. No promise cites these.
 --
---   powerLengthsFrom, powerRowsFrom, powersFrom    message lengths, rows and polynomials of s powers from i on
+--   powerRowsFrom, powersFrom    rows and polynomials of s powers from i on
 --   Row d n z              z is a row of n symbols
 --   Shape d xs k s         a code of s rows that is proper, and so is that of the single row
---   Countable k i          the message length of the power i is a small number
---   Short k s              those of the powers 1 to s are at most 96
---   Counted n k s          n, k and s are within their limits
 --   Raising d s z l        a row z of symbols, and room in l for s powers of it
 --   Ready d k s xs τ z a f w    the code, a row z, a trial limit and buffers for the answer of the s rows, whose checks passed
 --   Giving e d fs z a      on 'corrected', a row z that is to be struck with the factors fs, and room for it
 use mathlib.Core.Path.{_≡_}
 use mathlib.Core.Bool.{false}
-use mathlib.Core.List.{List, map, flatMap}
+use mathlib.Core.List.{List, flatMap}
 use Prim.Native.Nat.{ℕ, _*_, _≤_}
 use lib.ListN.{length}
 use Rattle.refusal.specs.Refusal.{badDegree}
@@ -25,10 +22,7 @@ use Rattle.codes.proofs.Passed.{Counts}
 use Rattle.factors.specs.Working.{Striking}
 use Rattle.ending.specs.declared.Ending.{Ending}
 use Rattle.ending.specs.declared.Ending.the-variants.{Corrected}
-use Rattle.powers.specs.Powers.{powerLength, powerRow, powerCode, powerOf}
-
-abbrev pub powerLengthsFrom : (k i s : ℕ) → List ℕ
-powerLengthsFrom k i s = map (powerLength k) (upFrom i s)
+use Rattle.power_checks.specs.Powers.{powerLength, powerRow, powerCode, powerOf}
 
 abbrev pub powerRowsFrom : (d i s : ℕ) → List ℕ → List ℕ
 powerRowsFrom d i s z = flatMap (λ i. powerRow d i z) (upFrom i s)
@@ -45,22 +39,6 @@ pub record Shape (d : ℕ) (xs : List ℕ) (k s : ℕ) : Type 0 where
   pub powers : 1 ≤ s
   pub fits : k ≤ length xs
   pub proper : Proper (powerCode d xs k s)
-
-pub record Countable (k i : ℕ) : Type 0 where
-  pub some : 1 ≤ k
-  pub most : k ≤ 96
-  pub powers : i ≤ 4
-
-pub record Short (k s : ℕ) : Type 0 where
-  pub countable : Countable k s
-  pub short : powerLength k s ≤ 96
-
-pub record Counted (n k s : ℕ) : Type 0 where
-  pub some : 1 ≤ k
-  pub fits : k ≤ n
-  pub most-columns : n ≤ 96
-  pub powers : 1 ≤ s
-  pub most-powers : s ≤ 4
 
 pub record Raising (d s : ℕ) (z l : List ℕ) : Type 0 where
   pub degree : badDegree d ≡ false

@@ -8,7 +8,7 @@ use Rattle.refusal.proofs.Keeping.{refuses, does}
 use Rattle.ending.specs.Endings.{Buffers}
 use Rattle.ending.specs.declared.Ending.the-variants.{Refused}
 use Rattle.joint.specs.Promises.{Left, buffers, left, cleared}
-use Rattle.powers.specs.Checks.{decodeChecks}
+use Rattle.power_checks.specs.Checks.{decodeChecks}
 use Rattle.powers.specs.Promises.{EndsAs}
 use borrow.Author.Needs.{needs}
 use Rattle.powers.proofs.decode.Statement.{statement}

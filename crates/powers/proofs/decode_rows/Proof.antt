@@ -13,11 +13,10 @@ use Rattle.codes.proofs.Factors.{each-one, ones-factors}
 use Rattle.joint.specs.Promises.{buffers}
 use Rattle.joint.proofs.Promised.{front-length}
 use Rattle.joint.proofs.Cleared.{cleared-by, cleared-behind, front-room as space-room}
-use Rattle.powers.specs.Powers.{powerLengths, powerRows}
+use Rattle.power_checks.specs.Powers.{powerLengths, powerRows}
+use Rattle.power_checks.proofs.Sizes.{length-powers, front-room}
 use Rattle.powers.specs.Working.{Ready}
-use Rattle.powers.proofs.Sizes.{length-powers}
 use Rattle.powers.proofs.Rows.{length-rows}
-use Rattle.powers.proofs.Lent.{front-room}
 use Rattle.powers.proofs.Passed.{ready-short, ready-cells, ready-room}
 use Rattle.powers.proofs.Ended.{joint-ready, struck-ended}
 use borrow.Author.Needs.{needs}

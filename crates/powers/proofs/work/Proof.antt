@@ -15,11 +15,12 @@ use Rattle.ending.specs.Endings.{Ends}
 use Rattle.ending.specs.declared.Ending.{Ending}
 use Rattle.ending.specs.declared.Ending.the-variants.{Corrected}
 use Rattle.joint.specs.Promises.{buffers}
-use Rattle.powers.specs.Powers.{powerRows, powerCode}
+use Rattle.power_checks.specs.Powers.{powerRows, powerCode}
+use Rattle.power_checks.proofs.Passed.{power-counts, power-checked, row-counts}
 use Rattle.powers.specs.Working.{Row, Ready}
 use Rattle.powers.proofs.Lent.{first-part}
 use Rattle.powers.proofs.Corrected.{row-proper, row-array}
-use Rattle.powers.proofs.Passed.{Passed, passed, power-counts, power-checked, row-counts}
+use Rattle.powers.proofs.Passed.{Passed, passed}
 use Rattle.powers.proofs.Ended.{corrected-row, power-ends}
 use borrow.Author.Needs.{needs}
 use Rattle.powers.proofs.work.Statement.{statement}

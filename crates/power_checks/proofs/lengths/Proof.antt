@@ -7,11 +7,11 @@ use native.Mathlib.Omega.{arith}
 use lib.ListN.{length, length-set}
 use Rattle.patch.specs.Patch.{patch}
 use Rattle.patch.proofs.Laws.{patch-none, patch-front}
-use Rattle.powers.specs.Powers.{powerLength}
-use Rattle.powers.proofs.Sizes.{length-most, lengths-written}
+use Rattle.power_checks.specs.Powers.{powerLength}
+use Rattle.power_checks.proofs.Sizes.{length-most, lengths-written}
 use borrow.Author.Needs.{needs}
-use Rattle.powers.proofs.lengths.Statement.{statement}
-use Rattle.powers.proofs.lengths.Tie as tie
+use Rattle.power_checks.proofs.lengths.Statement.{statement}
+use Rattle.power_checks.proofs.lengths.Tie as tie
 
 abbrev Inv-loop : tie.InvT-loop
 Inv-loop k powers ks₀ i₀ ks i = (i ≤ powers) × (length ks ≡ 4) × (ks ≡ patch 0 i (λ j. powerLength k (suc j)) ks₀)

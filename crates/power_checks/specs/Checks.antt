@@ -13,7 +13,7 @@ use Rattle.refusal.specs.Refusal.{Check, _when_, badDegree, outside, someOutsid
 use Rattle.codes.specs.Code.{jointLimit}
 use Rattle.codes.specs.Factors.{descriptionOf}
 use Rattle.codes.specs.Checks.{receivedChecks}
-use Rattle.powers.specs.Powers.{powerLength, powerCode}
+use Rattle.power_checks.specs.Powers.{powerLength, powerCode}
 
 -- k itself, and 'the largest power length', s(k−1)+1: where k is 0 that is 1, and k itself is what 4 refuses
 abbrev pub countedLengths : (k s : ℕ) → List ℕ

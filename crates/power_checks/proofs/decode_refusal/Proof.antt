@@ -10,14 +10,13 @@ use Rattle.codes.specs.Code.{codeOf}
 use Rattle.codes.specs.Checks.{remainingChecks}
 use Rattle.codes.proofs.Proper.{lengths-test}
 use Rattle.codes.proofs.Lost.{none-limit}
-use Rattle.powers.specs.Powers.{powerLengths, powerCode}
-use Rattle.powers.specs.Checks.{shapeChecks}
-use Rattle.powers.proofs.Sizes.{length-powers}
-use Rattle.powers.proofs.Lent.{front-room}
-use Rattle.powers.proofs.Passed.{Sized, sized, power-counts, short-of}
+use Rattle.power_checks.specs.Powers.{powerLengths, powerCode}
+use Rattle.power_checks.specs.Checks.{shapeChecks}
+use Rattle.power_checks.proofs.Sizes.{length-powers, front-room}
+use Rattle.power_checks.proofs.Passed.{Sized, sized, power-counts, short-of}
 use borrow.Author.Needs.{needs}
-use Rattle.powers.proofs.decode_refusal.Statement.{statement}
-use Rattle.powers.proofs.decode_refusal.Tie as tie
+use Rattle.power_checks.proofs.decode_refusal.Statement.{statement}
+use Rattle.power_checks.proofs.decode_refusal.Tie as tie
 
 abbrev start : tie.After-code-refusal → tie.Start
 start c = c .before .before .before .before

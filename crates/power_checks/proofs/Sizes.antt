@@ -3,6 +3,7 @@
 --   length-powers        there are s of them
 --   getD-powers          what stands there
 --   lengths-written      a list to the front of which they are written begins with them
+--   front-room           a list that begins with s numbers has them
 --   length-one           the first is k
 --   length-most          none is above the largest, s(k−1)+1
 --   lengths-within, lengths-below    so they are from 1 to n where it is, and below n where it is
@@ -13,15 +14,15 @@ use mathlib.Core.List.{List}
 use Prim.Native.Nat.{ℕ, zero, suc, _+_, _-_, _≤_, _<_}
 use native.Mathlib.Nat.{mul-le-mul-right, one-mul}
 use native.Mathlib.Omega.{arith}
-use lib.ListN.{length, getD, take}
+use lib.ListN.{length, getD, take, length-take}
 use Rattle.patch.specs.Patch.{patch}
 use Rattle.patch.proofs.Parts.{patch-is-lay, take-lay}
 use Rattle.refusal.specs.Refusal.{isIn}
 use Rattle.refusal.proofs.Repeats.{stands-not}
 use Rattle.codes.proofs.Proper.{Within}
 use Rattle.codes.specs.Code.{upFrom}
-use Rattle.powers.specs.Powers.{powerLength, powerLengths}
-use Rattle.powers.specs.Working.{powerLengthsFrom}
+use Rattle.power_checks.specs.Powers.{powerLength, powerLengths}
+use Rattle.power_checks.specs.Working.{powerLengthsFrom}
 
 pub length-powers : (k i s : ℕ) → length (powerLengthsFrom k i s) ≡ s
 unfolding upFrom
@@ -40,6 +41,9 @@ lengths-written k s l is room = take-lay (powerLengths k s) l
     (is ∙ patch-is-lay 0 s (λ j. powerLength k (suc j)) (powerLengths k s) l (length-powers k 1 s)
     (λ j h. sym (getD-powers k 1 s j h ∙ ap (powerLength k) (omega arith))))
     (length-powers k 1 s) room
+
+pub front-room : (s : ℕ) (r : List ℕ) {v : List ℕ} → take s r ≡ v → length v ≡ s → s ≤ length r
+front-room s r e k = omega (arith, length-take s r, ap length e)
 
 pub length-one : (k : ℕ) → 1 ≤ k → powerLength k 1 ≡ k
 length-one k h = omega (arith, one-mul (k - 1))

@@ -3,10 +3,10 @@
 use Prim.Native.Nat.{ℕ, _-_, _*_, _≤_}
 use native.Mathlib.Nat.{mul-le-mul}
 use native.Mathlib.Omega.{arith}
-use Rattle.powers.specs.Working.{Countable}
+use Rattle.power_checks.specs.Working.{Countable}
 use borrow.Author.Needs.{needs}
-use Rattle.powers.proofs.length.Statement.{statement}
-use Rattle.powers.proofs.length.Tie as tie
+use Rattle.power_checks.proofs.length.Statement.{statement}
+use Rattle.power_checks.proofs.length.Tie as tie
 
 small : {k i : ℕ} → Countable k i → i * (k - 1) ≤ 380
 small {k} {i} h = mul-le-mul {n₂ = 4} {m₂ = 95} (h .powers) (less (h .most))

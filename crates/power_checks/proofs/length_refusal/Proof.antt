@@ -3,9 +3,9 @@
 use mathlib.Core.Path.{sym, _∙_}
 use native.Mathlib.Omega.{arith}
 use Rattle.refusal.proofs.Ladders.{hit, miss, miss-last}
-use Rattle.powers.proofs.Passed.{long, fitting, whole, short}
-use Rattle.powers.proofs.length_refusal.Statement.{statement}
-use Rattle.powers.proofs.length_refusal.Tie as tie
+use Rattle.power_checks.proofs.Passed.{long, fitting, whole, short}
+use Rattle.power_checks.proofs.length_refusal.Statement.{statement}
+use Rattle.power_checks.proofs.length_refusal.Tie as tie
 
 pub length-refusal-spec : {M : Type 1} → statement M
 length-refusal-spec = tie.close (tie.spec

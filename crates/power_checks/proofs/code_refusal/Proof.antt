@@ -8,11 +8,11 @@ use lib.ListN.{drop}
 use Rattle.refusal.specs.Refusal.{Check, first, outside}
 use Rattle.refusal.proofs.Ladders.{hit, miss}
 use Rattle.refusal.proofs.Laws.{within}
-use Rattle.powers.specs.Checks.{shapeChecks}
-use Rattle.powers.proofs.Passed.{first-outside}
+use Rattle.power_checks.specs.Checks.{shapeChecks}
+use Rattle.power_checks.proofs.Passed.{first-outside}
 use borrow.Author.Needs.{needs}
-use Rattle.powers.proofs.code_refusal.Statement.{statement}
-use Rattle.powers.proofs.code_refusal.Tie as tie
+use Rattle.power_checks.proofs.code_refusal.Statement.{statement}
+use Rattle.power_checks.proofs.code_refusal.Tie as tie
 
 abbrev checks : tie.Start → List Check
 checks s = shapeChecks (s .args .degree) (s .args .n) (s .args .k) (s .args .powers)
