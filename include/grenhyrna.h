@@ -84,10 +84,10 @@
  * 8, the first that applies, which refuses the tray whole with answers, arrays, flags and working space as they were. With no mark
  * answers still needs a pointer that is not null, aligned for uint32_t.
  *
- * PITS. Decoding a ring by its wrong symbols counts symbols, in whatever sectors they are, and a limit of it counts symbols too. With
- * g = q·(q − 1)/2 the limit may go up to (q³ − m − 1 − g)/2 rounded down, which must not be below zero (for q = 4 and m = 58 or 59, and
- * only there, it is): for q = 4 and m = 37 that is 10. Up to it no two words of H(m) are within the limit of one ring, so there are two
- * endings alone. There are q³ flags, and the working space is as in decoding:
+ * PITS. Decoding a ring by its wrong symbols counts symbols, in whatever sectors they are, and its trial limit counts symbols too. With
+ * g = q·(q − 1)/2 the limit may go up to (q³ − m − 1 − g)/2 rounded down: 10 for q = 4 and m = 37. For q = 4 and m = 58 or 59 that is
+ * below zero, and every limit is refused. Up to it no two words of H(m) are within the limit of one ring, so that there are two endings
+ * alone. There are q³ flags, and the working space is as in decoding:
  *
  *   code              detail                      answer and flags
  *   GREN_REFUSED 0    number of the refusal       as they were; the working space too
@@ -99,8 +99,8 @@
  *
  * VERSIONS. From version 2 on the four calls on marks take factors and factor_count right after points and columns. A caller of the
  * version before, which did not name itself, hands in as many bytes of 1 as there are columns, is compiled anew, and gets the answers
- * that it got before. Version 3 has gren_mark_decode_powers and gren_tray_decode
- * besides, version 4 gren_ring_decode_pits, and version 5 gren_mark_list; none of these changes anything for a caller of version 2.
+ * that it got before. Version 3 has gren_mark_decode_powers and gren_tray_decode besides, version 4 gren_ring_decode_pits, and version 5
+ * gren_mark_list; none of these changes anything for a caller of version 2.
  */
 #ifndef GRENHYRNA_H
 #define GRENHYRNA_H
@@ -153,8 +153,8 @@ enum {
     GREN_BAD_ROWS = 2,       /* count of the lengths is not 1 to 4 */
     GREN_BAD_COLUMNS = 3,    /* count of the points is not 1 to 96 */
     GREN_BAD_LENGTH = 4,     /* some k is not 1 to the number of columns */
-    GREN_BAD_BUFFER = 5,     /* a buffer's length: factors columns, message K, array rows·columns (ring q³), flags columns (ring q², by symbols q³),
-                                space at least GREN_SPACE */
+    GREN_BAD_BUFFER = 5,     /* a buffer's length: factors columns, message K, array rows·columns (ring q³), flags columns (ring q²,
+                                by wrong symbols q³), space at least GREN_SPACE */
     GREN_BAD_POINT = 6,      /* a point is outside the field or stood earlier in the list */
     GREN_BAD_SYMBOL = 7,     /* a symbol is outside the field */
     GREN_BAD_LIMIT = 8,      /* the trial limit is above the joint limit, with lost columns that of the remaining columns */
