@@ -108,6 +108,7 @@ module _ {K : Type 0} where
 
   pub mem_where : (f : ℕ → Bool) (xs : List K) (y : K) → Mem y (points_where f xs) → Mem y xs
   unfolding points_where
+  mem_where f [] y m = elim m [ ]
   mem_where f (x ∷ xs) y m =
       ⊎_elim (λ e. inl e.0) (λ n. inr (mem_where (λ i. f (suc i)) xs y n)) (mem_keep (f 0) x y (points_where (λ i. f (suc i)) xs) m)
 

@@ -34,6 +34,9 @@ module _ {K : Type 0} where
 
   mem_right : (fs : List ℕ) (l : List K) (a : K) → Mem a (right fs l) → Mem a l
   unfolding right
+  mem_right [] l a h = elim h [ ]
+  mem_right (zero ∷ fs) [] a h = elim h [ ]
+  mem_right (suc f ∷ fs) [] a h = elim h [ ]
   mem_right (zero ∷ fs) (b ∷ l) a (inl e) = inl e
   mem_right (zero ∷ fs) (b ∷ l) a (inr h) = inr (mem_right fs l a h)
   mem_right (suc f ∷ fs) (b ∷ l) a h = inr (mem_right fs l a h)

@@ -59,6 +59,7 @@ module _ {K : Type 0} (A : Arithmetic K) (𝓕 : Field A) where
   fits_zero xs ys E {m} {N} d i l q h z f = roots A 𝓕 xs N d i h.symbols (omega (arith, h.count)) (fits_zeros xs ys E N l z f)
 
   fits_root : (xs ys E N : List K) (w : K) → length ys ≡ length xs → Fits A xs ys E N → Mem w xs → value A E w ≡ 𝟎 → value A N w ≡ 𝟎
+  fits_root [] ys E N w l f m r = elim m [ ]
   fits_root (x ∷ xs) [] E N w l f m r = absurd (omega arith)
   fits_root (x ∷ xs) (y ∷ ys) E N w l f (inl e) r =
       let zero_there : value A E x ≡ 𝟎 = ap (value A E) (sym e) ∙ r in

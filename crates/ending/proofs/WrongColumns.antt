@@ -44,6 +44,7 @@ abbrev pub root_count : Code → List ℕ → ℕ
 root_count c E = total (root_flags c E)
 
 pub all_mem : {K : Type 0} (P : K → Type 0) (l : List K) (a : K) → All P l → Mem a l → P a
+all_mem {K = K} P [] a h x'' = elim x'' [ ]
 all_mem P (b ∷ l) a h (inl e) = subst P (sym e) h.0
 all_mem P (b ∷ l) a h (inr m) = all_mem P l a h.1 m
 

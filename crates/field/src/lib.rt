@@ -1,4 +1,6 @@
 // Symbols of GF(4), GF(16) and GF(256): sum, product and quotient.
+#![tactic(auto)]
+
 pub mod bits;
 pub mod tables;
 

@@ -102,6 +102,7 @@ pub tested : (q : ℕ) → bad_size q ≡ false → Tested q
 tested q h = each Tested q h tested_2 tested_4
 
 passes : (b : Bool) → T (not b) → b ≡ false
+passes true t = elim t [ ]
 passes false t = refl
 
 -- 'In each sector the values at q distinct y'

@@ -31,8 +31,8 @@ pub fn release(ending: Ending, own: &[u8], wrong: &[u8], answer: &mut [u8], flag
     match ending {
         Ending::Refused(_) => {}
         Ending::Corrected(_) => {
-            bytes::copy(own, answer);
-            bytes::copy(wrong, flags);
+            patch::copy(own, answer);
+            patch::copy(wrong, flags);
         }
         Ending::Nothing => {}
         Ending::Several(_) => {}
@@ -64,7 +64,7 @@ fn work_whole(
     let mut held = [0u8; 96];
     let mut wrong = [0u8; 96];
     let mut own = [0u8; 384];
-    bytes::copy(points, &mut held);
+    patch::copy(points, &mut held);
     let ending = judging::end(
         table,
         degree,

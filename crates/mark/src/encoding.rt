@@ -47,7 +47,7 @@ pub(crate) fn write_array(
     let table = tables::lend(degree);
     let mut held = [0u8; 96];
     let mut made = [0u8; 384];
-    bytes::copy(points, &mut held);
+    patch::copy(points, &mut held);
     write_rows(
         &table,
         degree,
@@ -56,5 +56,5 @@ pub(crate) fn write_array(
         message,
         &mut made,
     );
-    bytes::copy(&made[..array.len()], array);
+    patch::copy(&made[..array.len()], array);
 }

@@ -121,7 +121,7 @@ pub(crate) fn write_message(
     let table = tables::lend(degree);
     let mut held = [0u8; 96];
     let mut made = [0u8; 384];
-    bytes::copy(points, &mut held);
+    patch::copy(points, &mut held);
     let good = read_array(
         &table,
         degree,
@@ -131,7 +131,7 @@ pub(crate) fn write_message(
         &mut made,
     );
     if good {
-        bytes::copy(&made[..message.len()], message);
+        patch::copy(&made[..message.len()], message);
     }
     good
 }

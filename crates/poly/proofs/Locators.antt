@@ -57,6 +57,7 @@ module _ {K : Type 0} (A : Arithmetic K) (𝓕 : Field A) where
   value_loc w W x = value_lin A 𝓕 w 𝟎 (loc A W) x ∙ zero_plus A 𝓕 _
 
   pub loc_mem : (x : K) (W : List K) → Mem x W → value A (loc A W) x ≡ 𝟎
+  loc_mem x [] x'' = elim x'' [ ]
   loc_mem x (w ∷ W) (inl e) = value_loc w W x ∙ rw (e, plus_self A 𝓕 w) (zero-times A 𝓕 _)
   loc_mem x (w ∷ W) (inr m) = value_loc w W x ∙ rw (loc_mem x W m) (times_zero A 𝓕 _)
 

@@ -35,6 +35,8 @@ Distinct [] = Unit {0}
 Distinct (x ∷ xs) = ¬ Mem x xs × Distinct xs
 
 mem_take : {K : Type 0} (n : ℕ) (xs : List K) (x : K) → Mem x (take n xs) → Mem x xs
+mem_take {K = K} zero xs x x3 = elim x3 [ ]
+mem_take {K = K} (suc n) [] x x6 = elim x6 [ ]
 mem_take (suc n) (a ∷ xs) x (inl e) = inl e
 mem_take (suc n) (a ∷ xs) x (inr m) = inr (mem_take n xs x m)
 

@@ -86,7 +86,7 @@ fn give(ending: Ending, degree: u32, factors: &[u8], row: &[u8], answer: &mut [u
     match ending {
         Ending::Refused(_) => {}
         Ending::Corrected(_) => {
-            bytes::copy(row, answer);
+            patch::copy(row, answer);
             factors::multiply(degree, factors, 1, answer);
         }
         Ending::Nothing => {}

@@ -1,4 +1,6 @@
 // The tests behind the refusals, each a function whose contract is its test.
+#![tactic(auto)]
+
 ghost use Rattle.std.specs.Prelude.{◌≡◌, ◌≤◌};
 ghost use Rattle.refusal.specs.Refusal.{bad_columns, bad_degree, bad_points, is_in, repeated};
 ghost use Rattle.refusal.specs.Refusal.{outside, outside_field, some_outside, some_outside_field};

@@ -120,6 +120,6 @@ pub fn complete(
         received,
         &mut own,
     );
-    bytes::copy(&own[..received.len()], answer);
-    bytes::copy(&marks[..points.len()], flags);
+    patch::copy(&own[..received.len()], answer);
+    patch::copy(&marks[..points.len()], flags);
 }

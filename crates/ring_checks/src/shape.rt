@@ -39,9 +39,9 @@ pub fn ordinates(q: u32) -> [u8; 64]
 {
     let mut ys = [0u8; 64];
     if q == 2 {
-        bytes::copy(&Y2, &mut ys);
+        patch::copy(&Y2, &mut ys);
     } else {
-        bytes::copy(&Y4, &mut ys);
+        patch::copy(&Y4, &mut ys);
     }
     ys
 }

@@ -97,7 +97,7 @@ fn find(q: u32, m: u32, received: &[u8], own: &mut [u8])
     ensures { own.new ≡ answer q m received.now }
 {
     if is_word(q, m, received) {
-        bytes::copy(received, own);
+        patch::copy(received, own);
         return;
     }
     let ys = shape::ordinates(q);

@@ -30,19 +30,19 @@ or-none a b = (
   λ (p, q). omega (arith, or_add_and a b),
 )
 
-abbrev invariant-loop : tie.invariant-loop
+abbrev invariant-loop : tie.invariant-loop-i
 invariant-loop factors bits₀ i₀ bits i =
     (i ≤ length factors)
     × (((bits ≡ 0) × All (λ (f : ℕ). f ≡ 1) (drop i factors)) ↔ All (λ (f : ℕ). f ≡ 1) factors)
 
-abbrev decreases-loop : tie.decreases-loop
+abbrev decreases-loop : tie.decreases-loop-i
 decreases-loop factors bits₀ i₀ bits i = length factors - i
 
-loop-again : tie.Need-loop-preserved invariant-loop decreases-loop
+loop-again : tie.Need-loop-i-preserved invariant-loop decreases-loop
 loop-again c =
     let t = c.before in
-    let own = t.before.loop in
-    let s = t.before.before.args.factors.now in
+    let own = t.loop-i in
+    let s = t.args.factors.now in
     let f = get_or s own.i 0 in
     let cut : All (λ (f : ℕ). f ≡ 1) (drop own.i s) ↔ ((f ≡ 1) × All (λ (f : ℕ). f ≡ 1) (drop (own.i + 1) s)) =
     rw (add-one, drop-cons s own.i 0 (omega arith)) (λ z. z, λ z. z) in
@@ -56,13 +56,13 @@ loop-again c =
 
 returns : tie.Need-returns invariant-loop decreases-loop
 returns c =
-    let own = c.before.loop in
-    let none : All (λ (f : ℕ). f ≡ 1) (drop own.i c.before.before.args.factors.now) =
-    rw (drop_of_length-le _ c.loop-test.false) tt in
+    let own = c.loop-i in
+    let none : All (λ (f : ℕ). f ≡ 1) (drop own.i c.args.factors.now) =
+    rw (drop_of_length-le _ c.loop-i-test.false) tt in
     (λ e. own.invariant.1.0 (eqb-true own.bits 0 e, none), λ h. eq-eqb own.bits 0 (own.invariant.1.1 h).0)
 
-pub all-ones-spec : {M : Type 1} → statement M
-all-ones-spec = tie.close (tie.spec invariant-loop decreases-loop
+pub all_ones_spec : {M : Type 1} → statement M
+all_ones_spec = tie.close (tie.spec invariant-loop decreases-loop
     (λ c. (omega arith, (λ z. z.1, λ z. (refl, z))))
     (λ c. search rules) (λ c. search rules) (λ c. search rules)
     loop-again

@@ -13,27 +13,24 @@ use borrow.Author.Rules.{rules}
 use Rattle.array_checks.proofs.array_refusal.Statement.{statement}
 use Rattle.array_checks.proofs.array_refusal.Tie as tie
 
-abbrev start : tie.After-code-refusal → tie.Start
-start c = c.before.before.before.before.before
-
-abbrev described : tie.After-code-refusal → Description
+abbrev described : tie.After-code_refusal-k → Description
 described c =
-    description_of (start c).args.degree (start c).args.points.now (start c).args.factors.now (start c).args.lengths.now
+    description_of c.args.degree c.args.points.now c.args.factors.now c.args.lengths.now
 
-abbrev code : tie.After-code-refusal → Code
+abbrev code : tie.After-code_refusal-k → Code
 code c = (described c).code
 
-counts : (c : tie.Else1) → Counts (code c.before)
-counts c = counts_of (code c.before) c.before.code-refusal.ensures c.if1.false
+counts : (c : tie.Else-k-ne0) → Counts (code c.before)
+counts c = counts_of (code c.before) c.code_refusal-k.ensures c.if-k-ne0.false
 
-pub array-refusal-spec : {M : Type 1} → statement M
-array-refusal-spec = tie.close (tie.spec
+pub array_refusal_spec : {M : Type 1} → statement M
+array_refusal_spec = tie.close (tie.spec
     (λ c κs. search rules)
-    (λ c a f w p q s. stopped _ _ c.before.code-refusal.ensures c.if1.true)
+    (λ c a f w p q s. stopped _ _ c.code_refusal-k.ensures c.if-k-ne0.true)
     (λ c κs. sizes_of (counts c))
-    (λ c κs. ((counts c.before).degree, (start c.before.before).requires))
+    (λ c κs. ((counts c.before).degree, c.requires))
     (λ c a f w p q s. let e = c.before.before in
-    c.lent-refusal.ensures (described e.before).code.lengths a f w p q s
-    ∙ ap (λ (n : ℕ). first (received_checks n (described e.before) (start e.before).args.received.now a f w))
-    c.before.cells.ensures
-    ∙ sym (passed_on (code_checks (code e.before)) _ tt e.before.code-refusal.ensures e.if1.false)))
+    c.lent_refusal.ensures (described e.before).code.lengths a f w p q s
+    ∙ ap (λ (n : ℕ). first (received_checks n (described e.before) e.args.received.now a f w))
+    c.cells.ensures
+    ∙ sym (passed_on (code_checks (code e.before)) _ tt e.code_refusal-k.ensures e.if-k-ne0.false)))

@@ -6,5 +6,5 @@ use borrow.Author.Rules.{rules}
 use Rattle.array_checks.proofs.cells.Statement.{statement}
 use Rattle.array_checks.proofs.cells.Tie as tie
 
-pub cells-spec : {M : Type 1} → statement M
-cells-spec = tie.close (tie.spec (λ c. omega (arith, mul-le-mul c.requires.most_rows c.requires.most_columns)) (λ c. search rules))
+pub cells_spec : {M : Type 1} → statement M
+cells_spec = tie.close (tie.spec (λ c. omega (arith, mul-le-mul c.requires.most_rows c.requires.most_columns)) (λ c. search rules))

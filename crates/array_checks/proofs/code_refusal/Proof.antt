@@ -13,44 +13,44 @@ use Rattle.array_checks.proofs.code_refusal.Statement.{statement}
 use Rattle.array_checks.proofs.code_refusal.Tie as tie
 
 -- the checks, behind each of them, and that the first k do not apply
-abbrev checks1 : tie.After-bad-degree → List Check
-checks1 c = let s = c.before.before.before.args in shape_checks s.most (code_of s.degree s.points.now s.lengths.now)
+abbrev checks1 : tie.After-bad_degree → List Check
+checks1 c = let s = c.args in shape_checks s.most (code_of s.degree s.points.now s.lengths.now)
 
 abbrev checks2 : tie.After-outside → List Check
 checks2 c = checks1 c.before.before
 
-abbrev checks3 : tie.After-outside2 → List Check
+abbrev checks3 : tie.After-outside-2 → List Check
 checks3 c = checks2 c.before.before
 
 abbrev Rest : ℕ → List Check → Type 0
 Rest k cs = first cs ≡ first (drop k cs)
 
-rest1 : (c : tie.Else1) → Rest 1 (checks1 c.before)
-rest1 c = miss _ _ _ (sym c.before.bad-degree.ensures ∙ c.if1.false)
+rest1 : (c : tie.Else-bad_degree) → Rest 1 (checks1 c.before)
+rest1 c = miss _ _ _ (sym c.bad_degree.ensures ∙ c.if-bad_degree.false)
 
-rest2 : (c : tie.Else2) → Rest 2 (checks2 c.before)
-rest2 c = rest1 c.before.before ∙ miss _ _ _ (sym c.before.outside.ensures ∙ c.if2.false)
+rest2 : (c : tie.Else-outside) → Rest 2 (checks2 c.before)
+rest2 c = rest1 c.before.before ∙ miss _ _ _ (sym c.outside.ensures ∙ c.if-outside.false)
 
-rest3 : (c : tie.Else3) → Rest 3 (checks3 c.before)
-rest3 c = rest2 c.before.before ∙ miss _ _ _ (sym c.before.outside2.ensures ∙ c.if3.false)
+rest3 : (c : tie.Else-outside-2) → Rest 3 (checks3 c.before)
+rest3 c = rest2 c.before.before ∙ miss _ _ _ (sym c.outside-2.ensures ∙ c.if-outside-2.false)
 
 -- where both tests of the lengths are made
-abbrev tested : tie.After-is-in → tie.Else3
+abbrev tested : tie.After-is_in-unchecked → tie.Else-outside-2
 tested c = c.before.before
 
-rest4 : (c : tie.Else4) → Rest 4 (checks3 (tested c.before).before)
-rest4 c = rest3 (tested c.before) ∙ miss _ _ _ (sym c.before.before.some-outside.ensures ∙ c.if4.false)
+rest4 : (c : tie.Else-outside-3) → Rest 4 (checks3 (tested c.before).before)
+rest4 c = rest3 (tested c.before) ∙ miss _ _ _ (sym c.some_outside-outside.ensures ∙ c.if-outside-3.false)
 
-pub code-refusal-spec : {M : Type 1} → statement M
-code-refusal-spec = tie.close (tie.spec
+pub code_refusal_spec : {M : Type 1} → statement M
+code_refusal_spec = tie.close (tie.spec
     (λ c κs. search rules)
-    (λ c. sym (hit _ _ _ (sym c.before.bad-degree.ensures ∙ c.if1.true)))
+    (λ c. sym (hit _ _ _ (sym c.bad_degree.ensures ∙ c.if-bad_degree.true)))
     (λ c κs. search rules)
-    (λ c. sym (rest1 c.before.before ∙ hit _ _ _ (sym c.before.outside.ensures ∙ c.if2.true)))
+    (λ c. sym (rest1 c.before.before ∙ hit _ _ _ (sym c.outside.ensures ∙ c.if-outside.true)))
     (λ c κs. search rules)
-    (λ c. sym (rest2 c.before.before ∙ hit _ _ _ (sym c.before.outside2.ensures ∙ c.if3.true)))
+    (λ c. sym (rest2 c.before.before ∙ hit _ _ _ (sym c.outside-2.ensures ∙ c.if-outside-2.true)))
     (λ c κs. search rules)
     (λ c κs. search rules)
-    (λ c. sym (rest3 (tested c.before) ∙ hit _ _ _ (sym c.before.before.some-outside.ensures ∙ c.if4.true)))
-    (λ c. sym (rest4 c.before ∙ hit _ _ _ (sym c.before.before.is-in.ensures ∙ c.if5.true)))
-    (λ c. sym (rest4 c.before ∙ miss_last _ _ (sym c.before.before.is-in.ensures ∙ c.if5.false))))
+    (λ c. sym (rest3 (tested c.before) ∙ hit _ _ _ (sym c.some_outside-outside.ensures ∙ c.if-outside-3.true)))
+    (λ c. sym (rest4 c.before ∙ hit _ _ _ (sym c.is_in-unchecked.ensures ∙ c.if-unchecked.true)))
+    (λ c. sym (rest4 c.before ∙ miss_last _ _ (sym c.is_in-unchecked.ensures ∙ c.if-unchecked.false))))

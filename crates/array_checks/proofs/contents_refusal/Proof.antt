@@ -6,9 +6,9 @@ use borrow.Author.Rules.{rules}
 use Rattle.array_checks.proofs.contents_refusal.Statement.{statement}
 use Rattle.array_checks.proofs.contents_refusal.Tie as tie
 
-pub contents-refusal-spec : {M : Type 1} → statement M
-contents-refusal-spec = tie.close (tie.spec
-    (λ c κs. c.before.before.before.requires)
+pub contents_refusal_spec : {M : Type 1} → statement M
+contents_refusal_spec = tie.close (tie.spec
+    (λ c κs. c.requires)
     (λ c κs. search rules)
-    (λ c. stopped _ _ c.before.before.known-refusal.ensures c.if1.true)
-    (λ c. c.before.symbols-refusal.ensures ∙ sym (passed_on _ _ tt c.before.before.known-refusal.ensures c.if1.false)))
+    (λ c. stopped _ _ c.known_refusal-of_columns.ensures c.if-of_columns-ne0.true)
+    (λ c. c.symbols_refusal-of_symbols.ensures ∙ sym (passed_on _ _ tt c.known_refusal-of_columns.ensures c.if-of_columns-ne0.false)))

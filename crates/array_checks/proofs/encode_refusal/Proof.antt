@@ -5,7 +5,7 @@ use borrow.Author.Rules.{rules}
 use Rattle.array_checks.proofs.encode_refusal.Statement.{statement}
 use Rattle.array_checks.proofs.encode_refusal.Tie as tie
 
-pub encode-refusal-spec : {M : Type 1} → statement M
-encode-refusal-spec = tie.close (tie.spec
+pub encode_refusal_spec : {M : Type 1} → statement M
+encode_refusal_spec = tie.close (tie.spec
     (λ c κs. search rules)
-    (λ c a p. c.buffers-refusal.ensures c.before.before.before.before.before.args.message.now a refl p))
+    (λ c a p. c.buffers_refusal.ensures c.args.message.now a refl p))

@@ -4,8 +4,8 @@ use borrow.Author.Rules.{rules}
 use Rattle.array_checks.proofs.joint_limit.Statement.{statement}
 use Rattle.array_checks.proofs.joint_limit.Tie as tie
 
-pub joint-limit-spec : {M : Type 1} → statement M
-joint-limit-spec = tie.close (tie.spec
+pub joint_limit_spec : {M : Type 1} → statement M
+joint_limit_spec = tie.close (tie.spec
     (λ c κs. search rules)
-    (λ c κs. (c.before.before.before.requires, c.largest.ensures))
-    (λ c. c.limit-from.ensures))
+    (λ c κs. (c.requires, c.largest.ensures))
+    (λ c. c.limit_from.ensures))

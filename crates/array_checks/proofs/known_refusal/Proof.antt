@@ -6,14 +6,14 @@ use borrow.Author.Rules.{rules}
 use Rattle.array_checks.proofs.known_refusal.Statement.{statement}
 use Rattle.array_checks.proofs.known_refusal.Tie as tie
 
-pub known-refusal-spec : {M : Type 1} → statement M
-known-refusal-spec = tie.close (tie.spec
+pub known_refusal_spec : {M : Type 1} → statement M
+known_refusal_spec = tie.close (tie.spec
     (λ c κs. search rules)
-    (λ c. sym (hit _ _ _ (sym c.before.bad-points.ensures ∙ c.if1.true)))
-    (λ c κs. c.before.before.before.before.requires)
+    (λ c. sym (hit _ _ _ (sym c.bad_points.ensures ∙ c.if-bad_points.true)))
+    (λ c κs. c.requires)
     (λ c. let six = c.before.before in
-    sym (miss _ _ _ (sym six.before.bad-points.ensures ∙ six.if1.false)
-    ∙ hit _ _ _ (sym c.before.bad-factors.ensures ∙ c.if2.true)))
+    sym (miss _ _ _ (sym six.bad_points.ensures ∙ six.if-bad_points.false)
+    ∙ hit _ _ _ (sym c.bad_factors.ensures ∙ c.if-bad_factors.true)))
     (λ c. let six = c.before.before in
-    sym (miss _ _ _ (sym six.before.bad-points.ensures ∙ six.if1.false)
-    ∙ miss_last _ _ (sym c.before.bad-factors.ensures ∙ c.if2.false))))
+    sym (miss _ _ _ (sym six.bad_points.ensures ∙ six.if-bad_points.false)
+    ∙ miss_last _ _ (sym c.bad_factors.ensures ∙ c.if-bad_factors.false))))

@@ -32,9 +32,9 @@ module _ (s : tie.Start) (a f w : List ℕ) (p : length a ≡ s.args.answer) (q 
       (as_tested f q refl))
       (ap (λ (l : ℕ). ltb l space_bytes) h))
 
-pub lent-refusal-spec : {M : Type 1} → statement M
-lent-refusal-spec = tie.close (tie.spec
-    (λ c ks a f w p q h. sym (hit _ _ _ (lengths_are c.before.before.before.before a f w p q h ∙ c.if1.true)))
-    (λ c κs. c.before.before.before.before.requires)
-    (λ c ks a f w p q h. c.contents-refusal.ensures
-    ∙ sym (miss _ _ _ (lengths_are c.before.before.before.before.before a f w p q h ∙ c.before.if1.false))))
+pub lent_refusal_spec : {M : Type 1} → statement M
+lent_refusal_spec = tie.close (tie.spec
+    (λ c ks a f w p q h. sym (hit _ _ _ (lengths_are c.before.before.before.before a f w p q h ∙ c.if-received-cells.true)))
+    (λ c κs. c.requires)
+    (λ c ks a f w p q h. c.contents_refusal.ensures
+    ∙ sym (miss _ _ _ (lengths_are c.before.before.before.before.before a f w p q h ∙ c.if-received-cells.false))))

@@ -20,18 +20,18 @@ least c p q s = rw (p, q, s, add-one)
 abbrev start : tie.After-total → tie.Start
 start c = c.before.before.before.before
 
-limit : (c : tie.After-total) (d : ℕ) → let s = (start c).args in
-    min ((c.before.cells.result - c.total.result) / (length s.lengths.now + 1)) (length s.points.now - s.most)
+limit : (c : tie.After-total) (d : ℕ) → let s = c.args in
+    min ((c.cells.result - c.total.result) / (length s.lengths.now + 1)) (length s.points.now - s.most)
     ≡ joint_limit (code_of d s.points.now s.lengths.now)
-limit c d = least _ c.before.cells.ensures c.total.ensures (start c).requires.1
+limit c d = least _ c.cells.ensures c.total.ensures c.requires.1
 
-pub limit-from-spec : {M : Type 1} → statement M
-limit-from-spec = tie.close (tie.spec
-    (λ c κs. c.before.before.requires.0)
-    (λ c κs. c.before.before.before.requires.0.most_rows)
-    (λ c. omega (arith, total-most _ (start c).args.lengths.now (start c).requires.0.lengths))
+pub limit_from_spec : {M : Type 1} → statement M
+limit_from_spec = tie.close (tie.spec
+    (λ c κs. c.requires.0)
+    (λ c κs. c.requires.0.most_rows)
+    (λ c. omega (arith, total-most _ c.args.lengths.now c.requires.0.lengths))
     (λ c. search rules)
     (λ c. search rules)
-    (λ c. let s = start c in omega (arith, s.pre.1, largest-most _ s.args.lengths.now s.pre.0.lengths))
+    (λ c. let s = start c in omega (arith, s.requires.1, largest-most _ s.args.lengths.now s.requires.0.lengths))
     (λ c d. omega (arith, limit c.before d))
     (λ c d. omega (arith, limit c.before d)))

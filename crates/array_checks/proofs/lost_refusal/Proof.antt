@@ -9,26 +9,23 @@ use borrow.Author.Rules.{rules}
 use Rattle.array_checks.proofs.lost_refusal.Statement.{statement}
 use Rattle.array_checks.proofs.lost_refusal.Tie as tie
 
-abbrev start : tie.After-array-refusal → tie.Start
-start c = c.before.before.before.before.before.before
-
-abbrev described : tie.After-array-refusal → Description
+abbrev described : tie.After-array_refusal-k → Description
 described c =
-    description_of (start c).args.degree (start c).args.points.now (start c).args.factors.now (start c).args.lengths.now
+    description_of c.args.degree c.args.points.now c.args.factors.now c.args.lengths.now
 
-counts : (c : tie.Else1) → Counts (described c.before).code
-counts c = counts_of_array (described c.before) (start c.before).args.received.now c.before.array-refusal.ensures
-    c.if1.false
+counts : (c : tie.Else-k-ne0) → Counts (described c.before).code
+counts c = counts_of_array (described c.before) c.args.received.now c.array_refusal-k.ensures
+    c.if-k-ne0.false
 
-remaining-refusal-requires : tie.Need-remaining-refusal-requires
+remaining-refusal-requires : tie.Need-remaining_refusal-requires
 remaining-refusal-requires c κs = let k = counts c in
-    (k.most_rows, ((k.some_columns, k.most_columns), (lengths_test 1 _ (start c.before).args.lengths.now).1 k.lengths))
+    (k.most_rows, ((k.some_columns, k.most_columns), (lengths_test 1 _ c.args.lengths.now).1 k.lengths))
 
-pub lost-refusal-spec : {M : Type 1} → statement M
-lost-refusal-spec = tie.close (tie.spec
+pub lost_refusal_spec : {M : Type 1} → statement M
+lost_refusal_spec = tie.close (tie.spec
     (λ c κs. search rules)
-    (λ c a f w p q s. stopped _ _ (c.before.array-refusal.ensures a f w p q s) c.if1.true)
+    (λ c a f w p q s. stopped _ _ (c.array_refusal-k.ensures a f w p q s) c.if-k-ne0.true)
     remaining-refusal-requires
     (λ c a f w p q s. let called = c.before.before in
-    c.remaining-refusal.ensures (start called).args.degree
-    ∙ sym (passed_on _ _ tt (called.array-refusal.ensures a f w p q s) c.before.if1.false)))
+    c.remaining_refusal.ensures called.args.degree
+    ∙ sym (passed_on _ _ tt (called.array_refusal-k.ensures a f w p q s) c.if-k-ne0.false)))

@@ -5,7 +5,7 @@ use borrow.Author.Rules.{rules}
 use Rattle.array_checks.proofs.read_refusal.Statement.{statement}
 use Rattle.array_checks.proofs.read_refusal.Tie as tie
 
-pub read-refusal-spec : {M : Type 1} → statement M
-read-refusal-spec = tie.close (tie.spec
+pub read_refusal_spec : {M : Type 1} → statement M
+read_refusal_spec = tie.close (tie.spec
     (λ c κs. search rules)
-    (λ c m p. c.buffers-refusal.ensures m c.before.before.before.before.before.args.array.now p refl))
+    (λ c m p. c.buffers_refusal.ensures m c.args.array.now p refl))

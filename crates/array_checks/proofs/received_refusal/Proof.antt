@@ -4,8 +4,8 @@ use borrow.Author.Rules.{rules}
 use Rattle.array_checks.proofs.received_refusal.Statement.{statement}
 use Rattle.array_checks.proofs.received_refusal.Tie as tie
 
-pub received-refusal-spec : {M : Type 1} → statement M
-received-refusal-spec = tie.close (tie.spec
+pub received_refusal_spec : {M : Type 1} → statement M
+received_refusal_spec = tie.close (tie.spec
     (λ c κs. search rules)
-    (λ c κs. (c.before.before.before.before.requires, c.all_ones.ensures.0))
-    (λ c. c.lent-refusal.ensures))
+    (λ c κs. (c.requires, c.all_ones.ensures.0))
+    (λ c. c.lent_refusal.ensures))

@@ -21,11 +21,11 @@ use borrow.Author.Rules.{rules}
 use Rattle.array_checks.proofs.remaining_refusal.Statement.{statement}
 use Rattle.array_checks.proofs.remaining_refusal.Tie as tie
 
-abbrev start : tie.After-bad-columns → tie.Start
+abbrev start : tie.After-bad_columns → tie.Start
 start c = c.before.before.before.before
 
-abbrev code : tie.After-bad-columns → ℕ → Code
-code c d = code_of d (start c).args.points.now (start c).args.lengths.now
+abbrev code : tie.After-bad_columns → ℕ → Code
+code c d = code_of d c.args.points.now c.args.lengths.now
 
 -- what the lengths and the points are, and that there is a column
 sizes : (s : tie.Start) → Sizes s.args.lengths.now s.args.points.now × (1 ≤ length s.args.points.now)
@@ -33,7 +33,7 @@ sizes s = let (rows, ((some, columns), lengths)) = s.requires in
     (record { most_rows = rows; most_columns = columns; lengths = (lengths_test 1 _ s.args.lengths.now).0 lengths }, some)
 
 -- where 16 does not apply
-module _ (c : tie.Else1) where
+module _ (c : tie.Else-bad_columns) where
   abbrev here : tie.Start
   here = start c.before
 
@@ -47,7 +47,7 @@ module _ (c : tie.Else1) where
   remains d = core (code c.before d) lost
 
   no_sixteen : bad_columns (length here.args.points.now) lost ≡ false
-  no_sixteen = sym c.before.bad-columns.ensures ∙ c.if1.false
+  no_sixteen = sym c.bad_columns.ensures ∙ c.if-bad_columns.false
 
   all : (d : ℕ) → columns (remains d) + length lost ≡ length here.args.points.now
   all d = core-columns (code c.before d) lost ((columns_test _ lost (sizes here).1).0 no_sixteen)
@@ -62,58 +62,58 @@ module _ (c : tie.Else1) where
   rest1 d = miss _ _ _ no_sixteen
 
 -- where 17 does not either
-module _ (c : tie.Else2) where
-  abbrev sixteen : tie.Else1
+module _ (c : tie.Else-left-most) where
+  abbrev sixteen : tie.Else-bad_columns
   sixteen = c.before.before
 
   enough : largest (here sixteen).args.lengths.now ≤ left sixteen
-  enough = omega (arith, c.before.largest.ensures, c.if2.false)
+  enough = omega (arith, c.largest-most.ensures, c.if-left-most.false)
 
   rest2 : Rest sixteen 2
   rest2 d = rest1 sixteen d ∙ miss _ _ _ (le-ltb (columns (remains sixteen d)) _ (omega (arith, all sixteen d, enough)))
 
 -- the limit that the code works out
-module _ (c : tie.After-limit-from) where
-  abbrev seventeen : tie.Else2
-  seventeen = c.before.before
+module _ (c : tie.After-limit_from) where
+  abbrev seventeen : tie.Else-left-most
+  seventeen = c.before
 
-  limit_is : (d : ℕ) → c.limit-from.result ≡ joint_limit (remains (sixteen seventeen) d)
+  limit_is : (d : ℕ) → c.limit_from.result ≡ joint_limit (remains (sixteen seventeen) d)
   limit_is d = let at = sixteen seventeen in
-      c.limit-from.ensures d ∙ joint_same d d _ _ (here at).args.lengths.now (front at ∙ omega (arith, all at d))
+      c.limit_from.ensures d ∙ joint_same d d _ _ (here at).args.lengths.now (front at ∙ omega (arith, all at d))
 
-limit-from-requires : tie.Need-limit-from-requires
+limit-from-requires : tie.Need-limit_from-requires
 limit-from-requires c κs =
-    let at = sixteen c.before in
+    let at = sixteen c in
     let (s, some) = sizes (here at) in (
       record {
         most_rows = s.most_rows;
         most_columns = omega (arith, front at, s.most_columns);
-        lengths = rw (front at) (within_largest _ _ _ s.lengths (enough c.before));
+        lengths = rw (front at) (within_largest _ _ _ s.lengths (enough c));
       },
-      c.before.before.largest.ensures,
+      c.largest-most.ensures,
     )
 
-returns-2 : tie.Need-returns-2
+returns-2 : tie.Need-returns-then-left-most
 returns-2 c d = let at = c.before.before in
     sym (rest1 at d ∙ hit _ _ _ (lt-ltb (columns (remains at d)) _
-    (omega (arith, all at d, c.before.largest.ensures, c.if2.true))))
+    (omega (arith, all at d, c.largest-most.ensures, c.if-left-most.true))))
 
-returns-3 : tie.Need-returns-3
+returns-3 : tie.Need-returns-then-limit_from-limit
 returns-3 c d = let at = seventeen c.before in
-    sym (rest2 at d ∙ hit _ _ _ (lt-ltb (joint_limit (remains (sixteen at) d)) _ (omega (arith, limit_is c.before d, c.if3.true))))
+    sym (rest2 at d ∙ hit _ _ _ (lt-ltb (joint_limit (remains (sixteen at) d)) _ (omega (arith, limit_is c.before d, c.if-limit_from-limit.true))))
 
-returns-4 : tie.Need-returns-4
+returns-4 : tie.Need-returns
 returns-4 c d = let at = seventeen c.before in
-    sym (rest2 at d ∙ miss_last _ _ (le-ltb (joint_limit (remains (sixteen at) d)) _ (omega (arith, limit_is c.before d, c.if3.false))))
+    sym (rest2 at d ∙ miss_last _ _ (le-ltb (joint_limit (remains (sixteen at) d)) _ (omega (arith, limit_is c.before d, c.if-limit_from-limit.false))))
 
-pub remaining-refusal-spec : {M : Type 1} → statement M
-remaining-refusal-spec = tie.close (tie.spec
+pub remaining_refusal_spec : {M : Type 1} → statement M
+remaining_refusal_spec = tie.close (tie.spec
     (λ c κs. search rules)
-    (λ c d. sym (hit _ _ _ (sym c.before.bad-columns.ensures ∙ c.if1.true)))
+    (λ c d. sym (hit _ _ _ (sym c.bad_columns.ensures ∙ c.if-bad_columns.true)))
     (λ c. omega (arith, all c 0))
     (λ c κs. search rules)
     returns-2
-    (λ c. sym (front (sixteen c.before)))
+    (λ c. sym (front (sixteen c)))
     limit-from-requires
     returns-3
     returns-4)

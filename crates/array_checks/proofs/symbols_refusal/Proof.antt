@@ -6,8 +6,8 @@ use borrow.Author.Rules.{rules}
 use Rattle.array_checks.proofs.symbols_refusal.Statement.{statement}
 use Rattle.array_checks.proofs.symbols_refusal.Tie as tie
 
-pub symbols-refusal-spec : {M : Type 1} → statement M
-symbols-refusal-spec = tie.close (tie.spec
+pub symbols_refusal_spec : {M : Type 1} → statement M
+symbols_refusal_spec = tie.close (tie.spec
     (λ c κs. search rules)
-    (λ c. sym (hit _ _ _ (sym c.before.some-outside-field.ensures ∙ c.if1.true)))
-    (λ c. sym (miss_last _ _ (sym c.before.some-outside-field.ensures ∙ c.if1.false))))
+    (λ c. sym (hit _ _ _ (sym c.some_outside_field.ensures ∙ c.if-some_outside_field.true)))
+    (λ c. sym (miss_last _ _ (sym c.some_outside_field.ensures ∙ c.if-some_outside_field.false))))

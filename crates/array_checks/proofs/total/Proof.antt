@@ -16,28 +16,28 @@ total-drop : (ks : List ℕ) (i : ℕ) → i < length ks → total (drop i ks) �
 unfolding total
 total-drop ks i h = rw (add-one, drop-cons ks i 0)
 
-abbrev invariant-loop : tie.invariant-loop
+abbrev invariant-loop : tie.invariant-loop-i
 invariant-loop lengths sum₀ i₀ sum i = (i ≤ length lengths) × (sum ≤ 255 * i) × (sum + total (drop i lengths) ≡ total lengths)
 
-abbrev decreases-loop : tie.decreases-loop
+abbrev decreases-loop : tie.decreases-loop-i
 decreases-loop lengths sum₀ i₀ sum i = length lengths - i
 
-loop-again : tie.Need-loop-preserved invariant-loop decreases-loop
+loop-again : tie.Need-loop-i-preserved invariant-loop decreases-loop
 loop-again c = let t = c.before.before in (
   omega arith,
-  omega (arith, c.before.shared-slice-known2.given t.before.loop.i),
-  omega (arith, total-drop t.before.before.before.args.lengths.now _ t.loop-test.true),
+  omega (arith, c.shared_slice_known-in-loop-i-1.given t.loop-i.i),
+  omega (arith, total-drop t.args.lengths.now _ t.loop-i-test.true),
 )
 
 returns : tie.Need-returns invariant-loop decreases-loop
 unfolding total
-returns c = omega (arith, rw (drop_of_length-le _ c.loop-test.false) at c.before.loop.invariant.2)
+returns c = omega (arith, rw (drop_of_length-le _ c.loop-i-test.false) at c.loop-i.invariant.2)
 
-pub total-spec : {M : Type 1} → statement M
-total-spec = tie.close (tie.spec invariant-loop decreases-loop
+pub total_spec : {M : Type 1} → statement M
+total_spec = tie.close (tie.spec invariant-loop decreases-loop
     (λ c. (omega arith, omega arith, omega arith))
     (λ c. search rules) (λ c κs. search rules)
-    (λ c. omega (arith, c.before.shared-slice-known2.given c.before.before.before.loop.i))
+    (λ c. omega (arith, c.shared_slice_known-in-loop-i-1.given c.loop-i.i))
     (λ c. search rules) (λ c. search rules)
     loop-again
     returns)

@@ -24,20 +24,20 @@ module _ (c : tie.After-store) where
   a = start.args.array.now
 
   abbrev held : List ℕ
-  held = c.store.new.1.0
+  held = c.store.new.s
 
   room : length a ≤ length held
-  room = omega (arith, c.store.auto.1.0, start.pre.1)
+  room = omega (arith, c.store.auto.s, start.requires.1)
 
   front : part 0 (length a) held ≡ a
-  front = ap (part 0 (length a)) c.store.ensures ∙ part-lay 0 a start.args.s.now (omega (arith, start.pre.1))
+  front = ap (part 0 (length a)) c.store.ensures ∙ part-lay 0 a start.args.s.now (omega (arith, start.requires.1))
 
-returns : tie.Need-returns
+returns : tie.Need-returns-then-all_ones
 returns c =
     let st = c.before.before.before.before in
     let s = start st in
-    take-lay (a st) s.args.s.now st.store.ensures refl s.pre.1
-    ∙ sym (ones_divide s.pre.0 (c.before.all_ones.ensures.0 c.if1.true))
+    take-lay (a st) s.args.s.now st.store.ensures refl s.requires.1
+    ∙ sym (ones_divide s.requires.0 (c.all_ones.ensures.0 c.if-all_ones.true))
 
 -- where the factors are inverted
 module _ (c : tie.After-inverses) where
@@ -51,33 +51,33 @@ module _ (c : tie.After-inverses) where
   fs = s.args.factors.now
 
   abbrev w : List ℕ
-  w = take (length fs) c.inverses.new.1.1.1.0
+  w = take (length fs) c.inverses.new.w
 
   inverted : w ≡ inverses s.args.degree fs
-  inverted = take-lay (inverses s.args.degree fs) _ c.inverses.ensures (length-inverses s.args.degree fs) s.pre.0.most
+  inverted = take-lay (inverses s.args.degree fs) _ c.inverses.ensures (length-inverses s.args.degree fs) s.requires.0.most
 
   same : length w ≡ length fs
   same = ap length inverted ∙ length-inverses s.args.degree fs
 
-multiply-rows-requires : tie.Need-multiply-rows-requires
+multiply-rows-requires : tie.Need-multiply_rows-requires
 multiply-rows-requires c κs =
     let i = c.before.before.before.before in
     let d = (s i).args.degree in
     multiplying (s i).requires.0 (w i) (held (stored i)) (same i) (room (stored i)) (front (stored i))
-    i.before.before.before.lend.ensures
+    i.lend-table.ensures
     (rw (inverted i) (inverses_in d (field d (s i).requires.0.degree) (fs i)))
 
-returns-2 : tie.Need-returns-2
+returns-2 : tie.Need-returns
 returns-2 c =
     let m = c.before.before in
     let i = m.before.before.before.before.before in
     let d = (s i).args.degree in
     let r = (s i).args.r in
-    multiplied_front (s i).requires.0 (w i) (held (stored i)) (same i) (room (stored i)) (front (stored i)) m.multiply-rows.ensures
+    multiplied_front (s i).requires.0 (w i) (held (stored i)) (same i) (room (stored i)) (front (stored i)) m.multiply_rows.ensures
     ∙ rw (inverted i) (by_inverses d (field d (s i).requires.0.degree) (fs i) r (a (stored i)) (s i).requires.0.factors (s i).requires.0.symbols)
 
-pub divide-spec : {M : Type 1} → statement M
-divide-spec = tie.close (tie.spec
+pub divide_spec : {M : Type 1} → statement M
+divide_spec = tie.close (tie.spec
     (λ c κs. search rules)
     (λ c κs. search rules)
     (λ c. search rules)

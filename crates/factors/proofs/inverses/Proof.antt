@@ -17,45 +17,42 @@ use borrow.Author.Rules.{rules}
 use Rattle.factors.proofs.inverses.Statement.{statement}
 use Rattle.factors.proofs.inverses.Tie as tie
 
-abbrev invariant-loop : tie.invariant-loop
+abbrev invariant-loop : tie.invariant-loop-i
 invariant-loop table degree factors w₀ i₀ w i = Filling 0 (length factors) (λ k. over degree 1 (get_or factors k 0)) w₀ w i
 
-abbrev decreases-loop : tie.decreases-loop
+abbrev decreases-loop : tie.decreases-loop-i
 decreases-loop table degree factors w₀ i₀ w i = length factors - i
 
-abbrev start : tie.In-loop invariant-loop decreases-loop → tie.Start invariant-loop decreases-loop
-start c = c.before.before.before.before
-
-quotient-from-requires : tie.Need-quotient-from-requires invariant-loop decreases-loop
+quotient-from-requires : tie.Need-quotient_from-requires invariant-loop decreases-loop
 quotient-from-requires c κs =
     let t = c.before in
-    let a = (start t).args in
-    let given = (start t).requires in
-    let f = all-at (Factor a.degree) a.factors.now t.before.loop.i 0 t.loop-test.true given.factors in
+    let a = t.args in
+    let given = t.requires in
+    let f = all-at (Factor a.degree) a.factors.now t.loop-i.i 0 t.loop-i-test.true given.factors in
     record { lent = given.lent; left = (field _ given.lent.degree).one_in; right = f.0; nonzero = f.1 }
 
-loop-again : tie.Need-loop-preserved invariant-loop decreases-loop
+loop-again : tie.Need-loop-i-preserved invariant-loop decreases-loop
 loop-again c =
     let t = c.before.before in
     record {
-      within = omega (arith, t.loop-test.true);
-      so_far_lem = patch_front t.before.loop.i _ _ t.before.loop.invariant.so_far_lem c.quotient-from.ensures;
+      within = omega (arith, t.loop-i-test.true);
+      so_far_lem = patch_front t.loop-i.i _ _ t.loop-i.invariant.so_far_lem c.quotient_from.ensures;
     }
 
 returns : tie.Need-returns invariant-loop decreases-loop
 returns c =
-    let a = c.before.before.before.before.args in
-    filled c.before.loop.invariant (omega arith)
+    let a = c.args in
+    filled c.loop-i.invariant (omega arith)
     ∙ patch_is_lay 0 (length a.factors.now) _ (inverses a.degree a.factors.now) a.w.now
     (length-inverses a.degree a.factors.now) (λ k h. sym (get_or-inverses a.degree a.factors.now k h))
 
-pub inverses-spec : {M : Type 1} → statement M
-inverses-spec = tie.close (tie.spec invariant-loop decreases-loop
+pub inverses_spec : {M : Type 1} → statement M
+inverses_spec = tie.close (tie.spec invariant-loop decreases-loop
     (λ c. filling)
     (λ c. search rules)
     quotient-from-requires
-    (λ c. let t = c.before.before in omega (arith, kept-length t.before.loop.invariant, t.loop-test.true, (start t).requires.room))
+    (λ c. let t = c.before.before in omega (arith, kept-length t.loop-i.invariant, t.loop-i-test.true, t.requires.room))
     (λ c. search rules) (λ c. search rules)
     loop-again
-    (λ c. kept-length c.before.loop.invariant)
+    (λ c. kept-length c.loop-i.invariant)
     returns)

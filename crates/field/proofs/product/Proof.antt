@@ -9,19 +9,19 @@ use Rattle.field.proofs.product.Statement.{statement}
 use Rattle.field.proofs.product.Tie as tie
 
 -- where no check applies
-module _ (c : tie.Else1) where
+module _ (c : tie.Else-k-ne0) where
   abbrev start : tie.Start
   start = c.before.before
 
   none : 0 ≡ first (checks start.args.degree start.args.a start.args.b)
-  none = sym c.if1.false ∙ c.before.first-refusal.ensures
+  none = sym c.if-k-ne0.false ∙ c.first_refusal-k.ensures
 
   known : Operands start.args.degree start.args.a start.args.b
   known = operands _ _ _ none
 
-pub product-spec : {M : Type 1} → statement M
-product-spec = tie.close (tie.spec
+pub product_spec : {M : Type 1} → statement M
+product_spec = tie.close (tie.spec
     (λ c κs. search rules)
-    (λ c. refuses _ _ c.before.first-refusal.ensures c.if1.true)
+    (λ c. refuses _ _ c.first_refusal-k.ensures c.if-k-ne0.true)
     (λ c κs. let ok = known c in (ok.degree, (ok.left, ok.right)))
     (λ c. gives _ _ (none c.before) c.product.ensures))

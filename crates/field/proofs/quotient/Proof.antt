@@ -12,35 +12,35 @@ use Rattle.field.proofs.quotient.Statement.{statement}
 use Rattle.field.proofs.quotient.Tie as tie
 
 -- where neither 1 nor 7 applies
-module _ (c : tie.Else1) where
+module _ (c : tie.Else-number-ne0) where
   abbrev start : tie.Start
   start = c.before.before
 
   known : Operands start.args.degree start.args.a start.args.b
-  known = operands _ _ _ (sym c.if1.false ∙ c.before.first-refusal.ensures)
+  known = operands _ _ _ (sym c.if-number-ne0.false ∙ c.first_refusal-number.ensures)
 
 -- where the divisor is zero, and where it is not
-zero : (c : tie.Then2) → let s = (start c.before).args in 25 ≡ first (quotient_checks s.degree s.a s.b)
-zero c = sym (passed_on _ _ tt c.before.before.first-refusal.ensures c.before.if1.false
-    ∙ hit _ _ _ (eq-eqb _ 0 c.if2.true))
+zero : (c : tie.Then-b-eq0) → let s = (start c.before).args in 25 ≡ first (quotient_checks s.degree s.a s.b)
+zero c = sym (passed_on _ _ tt c.first_refusal-number.ensures c.if-number-ne0.false
+    ∙ hit _ _ _ (eq-eqb _ 0 c.if-b-eq0.true))
 
-none : (c : tie.Else2) → let s = (start c.before).args in 0 ≡ first (quotient_checks s.degree s.a s.b)
-none c = sym (passed_on _ _ tt c.before.before.first-refusal.ensures c.before.if1.false
-    ∙ miss_last _ _ (ne_eqb _ 0 c.if2.false))
+none : (c : tie.Else-b-eq0) → let s = (start c.before).args in 0 ≡ first (quotient_checks s.degree s.a s.b)
+none c = sym (passed_on _ _ tt c.first_refusal-number.ensures c.if-number-ne0.false
+    ∙ miss_last _ _ (ne_eqb _ 0 c.if-b-eq0.false))
 
-quotient-from-requires : tie.Need-quotient-from-requires
+quotient-from-requires : tie.Need-quotient_from-requires
 quotient-from-requires c κs = let ok = known c.before.before.before in record {
-  lent = record { degree = ok.degree; table = c.before.lend.ensures };
+  lent = record { degree = ok.degree; table = c.lend-table.ensures };
   left = ok.left;
   right = ok.right;
-  nonzero = c.before.before.if2.false;
+  nonzero = c.if-b-eq0.false;
 }
 
-pub quotient-spec : {M : Type 1} → statement M
-quotient-spec = tie.close (tie.spec
+pub quotient_spec : {M : Type 1} → statement M
+quotient_spec = tie.close (tie.spec
     (λ c κs. search rules)
-    (λ c. refuses _ _ (stopped _ _ c.before.first-refusal.ensures c.if1.true) c.if1.true)
+    (λ c. refuses _ _ (stopped _ _ c.first_refusal-number.ensures c.if-number-ne0.true) c.if-number-ne0.true)
     (λ c. refuses _ _ (zero c) (λ e. omega arith))
     (λ c κs. (known c.before).degree)
     quotient-from-requires
-    (λ c. gives _ _ (none c.before.before.before) c.quotient-from.ensures))
+    (λ c. gives _ _ (none c.before.before.before) c.quotient_from.ensures))

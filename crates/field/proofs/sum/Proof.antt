@@ -7,12 +7,12 @@ use borrow.Author.Rules.{rules}
 use Rattle.field.proofs.sum.Statement.{statement}
 use Rattle.field.proofs.sum.Tie as tie
 
-returns-2 : tie.Need-returns-2
+returns-2 : tie.Need-returns
 unfolding plus
-returns-2 c = gives _ _ (sym c.if1.false ∙ c.before.first-refusal.ensures) refl
+returns-2 c = gives _ _ (sym c.if-k-ne0.false ∙ c.first_refusal-k.ensures) refl
 
-pub sum-spec : {M : Type 1} → statement M
-sum-spec = tie.close (tie.spec
+pub sum_spec : {M : Type 1} → statement M
+sum_spec = tie.close (tie.spec
     (λ c κs. search rules)
-    (λ c. refuses _ _ c.before.first-refusal.ensures c.if1.true)
+    (λ c. refuses _ _ c.first_refusal-k.ensures c.if-k-ne0.true)
     returns-2)

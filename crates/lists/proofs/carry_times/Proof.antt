@@ -10,10 +10,10 @@ use borrow.Author.Rules.{rules}
 use Rattle.lists.proofs.carry_times.Statement.{statement}
 use Rattle.lists.proofs.carry_times.Tie as tie
 
-abbrev doubled : tie.After-carry-combined-arg → tie.After-doublings-from
+abbrev doubled : tie.After-carry_combined-arg-1 → tie.After-doublings_from-r
 doubled c = c.before.before
 
-abbrev start : tie.After-doublings-from → tie.Start
+abbrev start : tie.After-doublings_from-r → tie.Start
 start c = c.before.before
 
 returns : tie.Need-returns
@@ -22,14 +22,14 @@ returns c =
     let first = doubled c.before.before.before in
     let a = (start first).args in
     let l = a.s.now in
-    products a.degree a.c first.doublings-from.ensures (λ k v. plus (get_or l (a.at + k) 0) v) (λ k. get_or l (a.at + (k + 1)) 0)
-    (λ k. omega (arith, first.before.slice-known.given (a.at + (k + 1)))) a.at a.n l c.before.before.carry-combined.ensures
+    products a.degree a.c first.doublings_from-r.ensures (λ k v. plus (get_or l (a.at + k) 0) v) (λ k. get_or l (a.at + (k + 1)) 0)
+    (λ k. omega (arith, first.slice_known-1.given (a.at + (k + 1)))) a.at a.n l c.carry_combined.ensures
 
-pub carry-times-spec : {M : Type 1} → statement M
-carry-times-spec =
+pub carry_times_spec : {M : Type 1} → statement M
+carry_times_spec =
     tie.close
     (tie.spec
     (λ c κs. search rules)
-    (λ c κs. let first = doubled c in (short _ _ (start first).pre.0.0 first.doublings-from.ensures, (start first).pre.1))
+    (λ c κs. let first = doubled c in (short _ _ (start first).requires.0.0 first.doublings_from-r.ensures, (start first).requires.1))
     (λ c. search rules)
     returns)

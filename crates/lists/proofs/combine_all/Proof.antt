@@ -10,25 +10,25 @@ use borrow.Author.Rules.{rules}
 use Rattle.lists.proofs.combine_all.Statement.{statement}
 use Rattle.lists.proofs.combine_all.Tie as tie
 
-abbrev invariant-loop : tie.invariant-loop
+abbrev invariant-loop : tie.invariant-loop-i
 invariant-loop degree r s₀ at n i₀ s i = Filling at n (combined_by r s₀ at) s₀ s i
 
-abbrev decreases-loop : tie.decreases-loop
+abbrev decreases-loop : tie.decreases-loop-i
 decreases-loop degree r s₀ at n i₀ s i = n - i
 
-abbrev start : tie.In-loop invariant-loop decreases-loop → tie.Start invariant-loop decreases-loop
+abbrev start : tie.In-loop-i invariant-loop decreases-loop → tie.Start invariant-loop decreases-loop
 start c = c.before.before.before
 
-next : (c : tie.In-loop invariant-loop decreases-loop) → (start c).args.at + c.before.loop.i < length c.before.loop.s
-next c = slot c.before.loop.invariant c.loop-test.true (start c).requires.1
+next : (c : tie.In-loop-i invariant-loop decreases-loop) → (start c).args.at + c.loop-i.i < length c.loop-i.s
+next c = slot c.loop-i.invariant c.loop-i-test.true (start c).requires.1
 
-loop-again : tie.Need-loop-preserved invariant-loop decreases-loop
+loop-again : tie.Need-loop-i-preserved invariant-loop decreases-loop
 loop-again c =
     let here = c.before.before in
-    turn here.before.loop.invariant here.loop-test.true (c.combine.ensures ∙ ap (combined _) (unfilled here.before.loop.invariant 0))
+    turn here.loop-i.invariant here.loop-i-test.true (c.combine.ensures ∙ ap (combined _) (unfilled here.loop-i.invariant 0))
 
-pub combine-all-spec : {M : Type 1} → statement M
-combine-all-spec =
+pub combine_all_spec : {M : Type 1} → statement M
+combine_all_spec =
     tie.close (tie.spec invariant-loop decreases-loop (λ c. filling) (λ c. search rules) (λ c. next c.before)
     (λ c κs. search rules) (λ c. search rules) (λ c. next c.before.before) (λ c. search rules) (λ c. search rules)
-    loop-again (λ c. kept-length c.before.loop.invariant) (λ c. filled c.before.loop.invariant (omega arith)))
+    loop-again (λ c. kept-length c.loop-i.invariant) (λ c. filled c.loop-i.invariant (omega arith)))

@@ -10,10 +10,10 @@ use Rattle.lists.proofs.combine_four.Tie as tie
 returns : tie.Need-returns
 unfolding plus
 returns c =
-    ap₂ bit_xor c.before.before.before.masked.ensures
-    (ap₂ bit_xor c.before.before.masked2.ensures
-    (ap₂ bit_xor c.before.masked3.ensures (ap₂ bit_xor c.masked4.ensures refl)))
+    ap₂ bit_xor c.masked.ensures
+    (ap₂ bit_xor c.masked-2.ensures
+    (ap₂ bit_xor c.masked-3.ensures (ap₂ bit_xor c.masked-4.ensures refl)))
 
-pub combine-four-spec : {M : Type 1} → statement M
-combine-four-spec =
+pub combine_four_spec : {M : Type 1} → statement M
+combine_four_spec =
     tie.close (tie.spec (λ c κs. search rules) (λ c κs. search rules) (λ c κs. search rules) (λ c κs. search rules) returns)

@@ -12,19 +12,19 @@ use Rattle.lists.proofs.multiply.Tie as tie
 abbrev start : tie.After-size → tie.Start
 start c = c.before.before.before
 
-cast-half : tie.Need-overflow-cast-half
+cast-half : tie.Need-overflow_cast-half
 cast-half c = omega (arith, c.size.ensures, field_size _ (start c).requires.0.0)
 
-multiply-by-bits-requires : tie.Need-multiply-by-bits-requires
+multiply-by-bits-requires : tie.Need-multiply_by_bits-requires
 multiply-by-bits-requires c κs =
     let sized = c.before.before in
     let (field, (room, symbols)) = (start sized).requires in
     let half = ap (λ (x : ℕ). x / 2) sized.size.ensures ∙ half_size _ (positive _ field.0) in (
-      record { degree = field.0; top = half; rest = c.before.low-bits-from.ensures },
+      record { degree = field.0; top = half; rest = c.low_bits_from-low.ensures },
       record { degree = field.0; left = field.2; right = field.3; room = room; factors = symbols.0; symbols = symbols.1 },
     )
 
-pub multiply-spec : {M : Type 1} → statement M
-multiply-spec =
+pub multiply_spec : {M : Type 1} → statement M
+multiply_spec =
     tie.close (tie.spec (λ c κs. search rules) cast-half (λ c κs. search rules) multiply-by-bits-requires
     (λ c. search rules) (λ c. search rules))

@@ -9,10 +9,10 @@ use borrow.Author.Rules.{rules}
 use Rattle.lists.proofs.scale.Statement.{statement}
 use Rattle.lists.proofs.scale.Tie as tie
 
-abbrev doubled : tie.After-combine-all-arg → tie.After-doublings-from
+abbrev doubled : tie.After-combine_all-arg-1 → tie.After-doublings_from-r
 doubled c = c.before.before
 
-abbrev start : tie.After-doublings-from → tie.Start
+abbrev start : tie.After-doublings_from-r → tie.Start
 start c = c.before.before
 
 returns : tie.Need-returns
@@ -21,14 +21,14 @@ returns c =
     let first = doubled c.before.before.before in
     let a = (start first).args in
     let l = a.s.now in
-    products a.degree a.c first.doublings-from.ensures (λ k v. v) (λ k. get_or l (a.at + k) 0)
-    (λ k. omega (arith, first.before.slice-known.given (a.at + k))) a.at a.n l c.before.before.combine-all.ensures
+    products a.degree a.c first.doublings_from-r.ensures (λ k v. v) (λ k. get_or l (a.at + k) 0)
+    (λ k. omega (arith, first.slice_known-1.given (a.at + k))) a.at a.n l c.combine_all.ensures
 
-pub scale-spec : {M : Type 1} → statement M
-scale-spec =
+pub scale_spec : {M : Type 1} → statement M
+scale_spec =
     tie.close
     (tie.spec
     (λ c κs. search rules)
-    (λ c κs. let first = doubled c in (short _ _ (start first).pre.0.0 first.doublings-from.ensures, (start first).pre.1))
+    (λ c κs. let first = doubled c in (short _ _ (start first).requires.0.0 first.doublings_from-r.ensures, (start first).requires.1))
     (λ c. search rules)
     returns)

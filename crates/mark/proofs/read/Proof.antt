@@ -18,7 +18,7 @@ use borrow.Author.Rules.{rules}
 use Rattle.mark.proofs.read.Statement.{statement}
 use Rattle.mark.proofs.read.Tie as tie
 
-abbrev start : tie.After-read-refusal → tie.Start
+abbrev start : tie.After-read_refusal-k → tie.Start
 start c = c.before.before.before.before.before.before
 
 abbrev described : tie.Start → Description
@@ -28,22 +28,22 @@ abbrev checks : tie.Start → List Check
 checks s = read_checks (described s) s.args.array.now s.args.message.now
 
 -- the refusal is the number of the first check that applies
-answered : (c : tie.After-read-refusal) → c.read-refusal.result ≡ first (checks (start c))
-answered c = c.read-refusal.ensures (start c).args.message.now refl
+answered : (c : tie.After-read_refusal-k) → c.read_refusal-k.result ≡ first (checks (start c))
+answered c = c.read_refusal-k.ensures c.args.message.now refl
 
-passes : (c : tie.Else1) → 0 ≡ first (checks (start c.before))
-passes c = sym c.if1.false ∙ answered c.before
+passes : (c : tie.Else-k-ne0) → 0 ≡ first (checks (start c.before))
+passes c = sym c.if-k-ne0.false ∙ answered c.before
 
-passed : (c : tie.Else1) → let s = start c.before in
+passed : (c : tie.Else-k-ne0) → let s = start c.before in
     PassedReading (described s).code s.args.array.now s.args.message.now × Factors (described s)
 passed c = let s = start c.before in reading (described s) s.args.array.now s.args.message.now (passes c)
 
-room : (c : tie.Else1) → length (start c.before).args.array.now ≤ 384
+room : (c : tie.Else-k-ne0) → length c.args.array.now ≤ 384
 room c = omega (arith, (passed c).0.array.count, (passed c).0.counts.cells)
 
 -- where the array is divided
 module _ (c : tie.After-divide) where
-  abbrev clear : tie.Else1
+  abbrev clear : tie.Else-k-ne0
   clear = c.before.before
 
   abbrev s : tie.Start
@@ -59,7 +59,7 @@ module _ (c : tie.After-divide) where
   is_array = (passed clear).0.array
 
   abbrev quotient : List ℕ
-  quotient = take (length a) c.divide.new.1.1.1.1.0
+  quotient = take (length a) c.divide.new.s
 
   is_quotient : quotient ≡ divided D a
   is_quotient = c.divide.ensures
@@ -71,35 +71,35 @@ module _ (c : tie.After-divide) where
   same = quotient_array.count ∙ sym is_array.count
 
 -- where the worker has returned
-abbrev parted : tie.After-write-message → tie.After-divide
+abbrev parted : tie.After-write_message → tie.After-divide
 parted c = c.before.before.before.before
 
-returns-2 : tie.Need-returns-2
+returns-2 : tie.Need-returns-then-write_message
 returns-2 c =
     let w = c.before.before.before in
     let p = parted w in
     let (ok, factors) = passed (clear p) in
-    let (message, codes) = w.write-message.ensures.found c.if2.true in
+    let (message, codes) = w.write_message.ensures.found c.if-write_message.true in
     finds (checks (s p)) (IsMessage (D p).code) (encoded_by (D p)) (a p) (s p).args.message.now (passes (clear p)) message
     (ap (multiplied (D p)) (codes ∙ is_quotient p) ∙ multiplied-divided (D p) ok.proper factors (is_array p))
 
-returns-3 : tie.Need-returns-3
+returns-3 : tie.Need-returns
 returns-3 c =
     let w = c.before.before.before in
     let p = parted w in
     let (ok, factors) = passed (clear p) in
-    let (none, kept) = w.write-message.ensures.none c.if2.false in
+    let (none, kept) = w.write_message.ensures.none c.if-write_message.false in
     finds_none (checks (s p)) (IsMessage (D p).code) (encoded_by (D p)) (a p) (s p).args.message.now (passes (clear p))
     (λ h. none (subst (CodeArray (D p).code) (sym (is_quotient p)) ((code_divided (D p) ok.proper factors (is_array p)).0 h))) kept
 
 pub read_spec : {M : Type 1} → statement M
 read_spec = tie.close (tie.spec
     (λ c κs. search rules)
-    (λ c. refuses (checks (start c.before)) _ _ (answered c.before) c.if1.true)
+    (λ c. refuses (checks (start c.before)) _ _ (answered c.before) c.if-k-ne0.true)
     (λ c. search rules)
     (λ c κs. let e = c.before in
     (striking {D = described (start e.before)} (passed e).0.counts (passed e).1 (passed e).0.array, room e))
-    (λ c. let p = c.before in omega (arith, p.divide.auto.1.1.1.1.0, room (clear p)))
+    (λ c. let p = c.before in omega (arith, p.divide.auto.s, room (clear p)))
     (λ c. sym (same c.before.before))
     (λ c κs. let p = c.before.before.before in let ok = (passed (clear p)).0 in
     record { counts = ok.counts; proper = ok.proper; array = quotient_array p; message = ok.message })

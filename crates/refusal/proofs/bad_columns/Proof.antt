@@ -6,14 +6,14 @@ use borrow.Author.Rules.{rules}
 use Rattle.refusal.proofs.bad_columns.Statement.{statement}
 use Rattle.refusal.proofs.bad_columns.Tie as tie
 
-returns : tie.Need-returns
+returns : tie.Need-returns-then-some_outside
 unfolding bad_columns
-returns c = simp (sym c.before.some-outside.ensures ∙ c.if1.true)
+returns c = simp (sym c.before.some_outside.ensures ∙ c.if-some_outside.true)
 
-returns-2 : tie.Need-returns-2
+returns-2 : tie.Need-returns
 unfolding bad_columns
-returns-2 c = simp (sym c.before.before.some-outside.ensures ∙ c.before.if1.false, c.repeated.ensures)
+returns-2 c = simp (sym c.before.before.some_outside.ensures ∙ c.before.if-some_outside.false, c.repeated.ensures)
 
-pub bad-columns-spec : {M : Type 1} → statement M
-bad-columns-spec =
+pub bad_columns_spec : {M : Type 1} → statement M
+bad_columns_spec =
     tie.close (tie.spec (λ c. search rules) (λ c κs. search rules) returns (λ c κs. search rules) returns-2)

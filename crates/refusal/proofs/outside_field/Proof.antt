@@ -20,14 +20,14 @@ nothing_above d a (no h) = rw (div-eq_of_lt (small h)) (sym (lt-leb (2 ^ d) a (s
     small : (2 ^ d ≤ a → ⊥) → a < 2 ^ d
     small k = omega arith
 
-returns : tie.Need-returns
+returns : tie.Need-returns-then-degree-lt8
 unfolding outside_field
 returns c = nothing_above c.before.args.degree c.before.args.a (dec_le _ _)
 
-returns-2 : tie.Need-returns-2
+returns-2 : tie.Need-returns-else-degree-lt8
 unfolding outside_field
 returns-2 c =
-    sym (lt-leb _ _ (lt_of_lt_of_le c.before.ranges.a.fits (pow_mono c.if1.false)))
+    sym (lt-leb _ _ (lt_of_lt_of_le c.before.ranges.a.fits (pow_mono c.if-degree-lt8.false)))
 
-pub outside-field-spec : {M : Type 1} → statement M
-outside-field-spec = tie.close (tie.spec (λ c. search rules) (λ c. search rules) returns returns-2)
+pub outside_field_spec : {M : Type 1} → statement M
+outside_field_spec = tie.close (tie.spec (λ c. search rules) (λ c. search rules) returns returns-2)

@@ -19,10 +19,10 @@ use Rattle.refusal.proofs.repeated.Tie as tie
 abbrev Fresh : List ℕ → ℕ → ℕ → Type 0
 Fresh l i j = (k : ℕ) → k < j → get_or l k 0 ≡ get_or l i 0 → ⊥
 
-abbrev invariant-loop : tie.invariant-loop
+abbrev invariant-loop : tie.invariant-loop-j
 invariant-loop xs repeated₀ i j₀ repeated j = (j ≤ i) × (repeated ≡ false) × Fresh xs i j
 
-abbrev decreases-loop : tie.decreases-loop
+abbrev decreases-loop : tie.decreases-loop-j
 decreases-loop xs repeated₀ i j₀ repeated j = i - j
 
 abbrev invariant-points : tie.invariant-points
@@ -46,7 +46,7 @@ last l i j h p q n k r e = go (dec_lt k j)
     go (no b) = let here : k ≡ j = omega arith in n (omega arith) (rw here at e)
 
 -- where entry i is compared: the entries that stood before it, and that i is one
-module _ (c : tie.At-loop invariant-loop decreases-loop invariant-points decreases-points) where
+module _ (c : tie.At-loop-j invariant-loop decreases-loop invariant-points decreases-points) where
   abbrev xs : List ℕ
   xs = c.before.before.before.args.xs.now
 
@@ -54,43 +54,43 @@ module _ (c : tie.At-loop invariant-loop decreases-loop invariant-points decreas
   i = c.before.before.points.i
 
   found : {j : ℕ} → j < i → get_or xs j 0 ≡ get_or xs i 0 → true ≡ repeated xs
-  found h e = sym (repeats xs _ _ h c.before.points_test.true e)
+  found h e = sym (repeats xs _ _ h c.before.points-test.true e)
 
 -- where two of them are compared
-abbrev turn : tie.Else1 invariant-loop decreases-loop invariant-points decreases-points → tie.In-loop invariant-loop decreases-loop invariant-points decreases-points
+abbrev turn : tie.Else-xs-j invariant-loop decreases-loop invariant-points decreases-points → tie.In-loop-j invariant-loop decreases-loop invariant-points decreases-points
 turn c = c.before.before.before
 
-loop-again : tie.Need-loop-preserved invariant-loop decreases-loop invariant-points decreases-points
+loop-again : tie.Need-loop-j-preserved invariant-loop decreases-loop invariant-points decreases-points
 loop-again c = let first = c.before.before.before in
     let at = (turn first).before in (
-      omega (arith, (turn first).loop-test.true),
-      at.loop.inv.1,
-      two_more (xs at) (i at) at.loop.j at.loop.inv.2 first.if1.false c.if2.false,
+      omega (arith, (turn first).loop-j-test.true),
+      at.loop-j.invariant.1,
+      two_more (xs at) (i at) at.loop-j.j at.loop-j.invariant.2 first.if-xs-j.false c.if-xs-j-2.false,
     )
 
 points-again : tie.Need-points-preserved invariant-loop decreases-loop invariant-points decreases-points
 points-again c = let at = c.before.before in (
-  omega (arith, at.before.points_test.true),
-  at.loop.invariant.1,
+  omega (arith, at.before.points-test.true),
+  at.loop-j.invariant.1,
   below_more _ _ at.before.before.points.invariant.2
-      (last (xs at) (i at) at.loop.j at.loop.invariant.2 at.loop.invariant.0 (omega (arith, c.before.loop-test.false))
-      (λ h. ⊎_elim (λ w. w.3.left) (λ w. absurd (omega (arith, w.left))) c.if3.branch)),
+      (last (xs at) (i at) at.loop-j.j at.loop-j.invariant.2 at.loop-j.invariant.0 (omega (arith, c.before.loop-j-test.false))
+      (λ h. ⊎_elim (λ w. w.if-xs-j-3.false) (λ w. absurd (omega (arith, w.if-j-i.false))) c.if-j-i.branch-raw)),
 )
 
-returns : tie.Need-returns invariant-loop decreases-loop invariant-points decreases-points
+returns : tie.Need-returns-after-points invariant-loop decreases-loop invariant-points decreases-points
 returns c = let l = c.before.before.args.xs.now in
     let inv = c.before.points.invariant in
     let whole : c.before.points.i ≡ length l = omega arith in
     inv.1 ∙ sym (repeats_not l (rw whole at inv.2))
 
-pub repeated-spec : {M : Type 1} → statement M
-repeated-spec = tie.close (tie.spec invariant-loop decreases-loop invariant-points decreases-points
+pub repeated_spec : {M : Type 1} → statement M
+repeated_spec = tie.close (tie.spec invariant-loop decreases-loop invariant-points decreases-points
     (λ c. search rules) (λ c. search rules) (λ c. search rules) (λ c. search rules) (λ c. search rules)
     (λ c. search rules) (λ c. search rules) (λ c. search rules) (λ c. search rules) (λ c. search rules)
     loop-again
     (λ c. search rules) (λ c. search rules) (λ c. search rules) (λ c. search rules)
     points-again
     returns
-    (λ c. let t = c.before.before.before in found t.before (omega (arith, t.loop-test.true)) c.if1.true)
-    (λ c. let t = turn c.before.before.before in found t.before t.loop-test.taken c.if2.true)
-    (λ c. found c.before.before.before.before.before c.before.before.before.if3.true c.if4.true))
+    (λ c. let t = c.before.before.before in found t.before (omega (arith, t.loop-j-test.true)) c.if-xs-j.true)
+    (λ c. let t = turn c.before.before.before in found t.before t.loop-j-test.true c.if-xs-j-2.true)
+    (λ c. found c.before.before.before.before.before c.before.before.before.if-j-i.true c.if-xs-j-3.true))

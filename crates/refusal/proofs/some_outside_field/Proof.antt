@@ -42,27 +42,27 @@ none_outside d [] h k = refl
 none_outside d (a ∷ l) h k =
     simp (lt-leb (2 ^ d) a (lt_of_lt_of_le (k 0) (pow_mono h)), none_outside d l h (λ i. k (suc i)))
 
-abbrev invariant-loop : tie.invariant-loop
+abbrev invariant-loop : tie.invariant-loop-i
 invariant-loop degree s bits₀ i₀ bits i =
     (i ≤ length s) × (outside_field degree bits || some_outside_field degree (drop i s) ≡ some_outside_field degree s)
 
-abbrev decreases-loop : tie.decreases-loop
+abbrev decreases-loop : tie.decreases-loop-i
 decreases-loop degree s bits₀ i₀ bits i = length s - i
 
-loop-holds : tie.Need-loop-init invariant-loop decreases-loop
+loop-holds : tie.Need-loop-i-init invariant-loop decreases-loop
 unfolding outside_field
 loop-holds c = let d = c.before.before.args.degree in (omega arith, rw (lt-leb (2 ^ d) 0 (pow_pos d)))
 
-returns-2 : tie.Need-returns-2 invariant-loop decreases-loop
+returns-2 : tie.Need-returns invariant-loop decreases-loop
 unfolding some_outside_field
-returns-2 c = c.outside-field.ensures ∙ sym (or-false _)
-    ∙ (rw (drop_of_length-le _ c.before.loop-test.false) at c.before.before.loop.invariant.1)
+returns-2 c = c.outside_field.ensures ∙ sym (or-false _)
+    ∙ (rw (drop_of_length-le _ c.before.loop-i-test.false) at c.before.before.loop-i.invariant.1)
 
-pub some-outside-field-spec : {M : Type 1} → statement M
-some-outside-field-spec = tie.close (tie.spec invariant-loop decreases-loop
-    (λ c. sym (none_outside _ _ c.if1.true (λ i. (c.before.shared-slice-known.given i).fits)))
+pub some_outside_field_spec : {M : Type 1} → statement M
+some_outside_field_spec = tie.close (tie.spec invariant-loop decreases-loop
+    (λ c. sym (none_outside _ _ c.if-degree-ge8.true (λ i. (c.before.shared_slice_known-1.given i).fits)))
     loop-holds
     (λ c. search rules) (λ c. search rules) (λ c. search rules)
-    (λ c. (omega arith, sym (bits_drop _ _ _ _ c.before.loop-test.true) ∙ c.before.before.loop.invariant.1))
+    (λ c. (omega arith, sym (bits_drop _ _ _ _ c.before.loop-i-test.true) ∙ c.before.before.loop-i.invariant.1))
     (λ c κs. search rules)
     returns-2)

@@ -8,15 +8,15 @@ use borrow.Author.Rules.{rules}
 use Rattle.rows.proofs.clear.Statement.{statement}
 use Rattle.rows.proofs.clear.Tie as tie
 
-abbrev invariant-loop : tie.invariant-loop
+abbrev invariant-loop : tie.invariant-loop-i
 invariant-loop s₀ at n i₀ s i = Filling at n (λ k. 0) s₀ s i
 
-abbrev decreases-loop : tie.decreases-loop
+abbrev decreases-loop : tie.decreases-loop-i
 decreases-loop s₀ at n i₀ s i = n - i
 
 pub clear_spec : {M : Type 1} → statement M
 clear_spec =
     tie.close (tie.spec invariant-loop decreases-loop (λ c. filling) (λ c. search rules)
-    (λ c. slot c.before.loop.invariant c.loop-test.true c.before.before.requires) (λ c. search rules)
-    (λ c. search rules) (λ c. turn c.before.loop.invariant c.loop-test.true refl)
-    (λ c. kept-length c.before.loop.invariant) (λ c. filled c.before.loop.invariant (omega arith)))
+    (λ c. slot c.loop-i.invariant c.loop-i-test.true c.requires) (λ c. search rules)
+    (λ c. search rules) (λ c. turn c.loop-i.invariant c.loop-i-test.true refl)
+    (λ c. kept-length c.loop-i.invariant) (λ c. filled c.loop-i.invariant (omega arith)))

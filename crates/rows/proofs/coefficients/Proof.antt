@@ -24,20 +24,20 @@ record Given (d : ℕ) (t nodes us s : List ℕ) (at : ℕ) : Type 0 where
   few : length us ≤ 384
   room : at + length us ≤ length s
 
-abbrev invariant-loop : tie.invariant-loop
+abbrev invariant-loop : tie.invariant-loop-j
 invariant-loop table degree nodes us s at w₀ j₀ w j =
     (j ≤ length us) × (length w ≡ 400) × Rising degree nodes us j w
 
-abbrev decreases-loop : tie.decreases-loop
+abbrev decreases-loop : tie.decreases-loop-j
 decreases-loop table degree nodes us s at w₀ j₀ w j = j
 
-abbrev start : tie.After-w invariant-loop decreases-loop → tie.Start invariant-loop decreases-loop
+abbrev start : tie.After-w-1 invariant-loop decreases-loop → tie.Start invariant-loop decreases-loop
 start c = c.before.before.before.before
 
-abbrev entered : tie.At-loop invariant-loop decreases-loop → tie.After-w invariant-loop decreases-loop
+abbrev entered : tie.At-loop-j invariant-loop decreases-loop → tie.After-w-1 invariant-loop decreases-loop
 entered c = c.before.before.before
 
-abbrev reading : tie.After-w3 invariant-loop decreases-loop → tie.In-loop invariant-loop decreases-loop
+abbrev reading : tie.After-w-in-loop-j-1 invariant-loop decreases-loop → tie.In-loop-j invariant-loop decreases-loop
 reading c = c.before.before
 
 given : (c : tie.Start invariant-loop decreases-loop) → let a = c.args in
@@ -50,79 +50,79 @@ given c = let ((degree, table, symbols), (enough, few, room)) = c.requires in re
   room = room;
 }
 
-abbrev at-start : (c : tie.In-loop invariant-loop decreases-loop) → tie.Start invariant-loop decreases-loop
+abbrev at-start : (c : tie.In-loop-j invariant-loop decreases-loop) → tie.Start invariant-loop decreases-loop
 at-start c = start (entered c.before)
 
 -- a turn's coefficient is one of those that there are, and so is its node
-places : (c : tie.In-loop invariant-loop decreases-loop) → c.before.loop.j ≤ length (at-start c).args.nodes.now
-places c = omega (arith, c.before.loop.invariant.0, (given (at-start c)).enough)
+places : (c : tie.In-loop-j invariant-loop decreases-loop) → c.loop-j.j ≤ length c.args.nodes.now
+places c = omega (arith, c.loop-j.invariant.0, (given (at-start c)).enough)
 
 -- the sixteens of a turn reach the end of the coefficients, and end in the array
 fits : (n j : ℕ) → 0 < j → j ≤ n → n ≤ 384 → (n - j ≤ (n - j + 15) / 16 * 16) × (j - 1 + (n - j + 15) / 16 * 16 < 400)
 fits n j h k most = (omega arith, omega arith)
 
-carry-times-requires : tie.Need-carry-times-requires invariant-loop decreases-loop
+carry-times-requires : tie.Need-carry_times-requires invariant-loop decreases-loop
 carry-times-requires c κs =
     let here = reading c in
-    let inv = here.before.loop.inv in
+    let inv = here.loop-j.invariant in
     let g = given (at-start here) in
-    let more = here.loop-test.taken in (
-      (g.lent.degree, g.lent.table, symbol_at _ (at-start here).args.nodes.now _ g.symbols (omega (arith, places here, more))),
+    let more = here.loop-j-test.true in (
+      (g.lent.degree, g.lent.table, symbol_at _ here.args.nodes.now _ g.symbols (omega (arith, places here, more))),
       omega (arith, inv.1, (fits _ _ (omega (arith, more)) inv.0 g.few).1),
     )
 
-loop-again : tie.Need-loop-preserved invariant-loop decreases-loop
+loop-again : tie.Need-loop-j-preserved invariant-loop decreases-loop
 loop-again c =
     let called = c.before in
     let here = reading called.before in
-    let turn = here.before.loop in
+    let turn = here.loop-j in
     let g = given (at-start here) in
-    let more : 0 < turn.j = omega (arith, here.loop-test.taken) in
-    let room = fits _ _ more turn.inv.0 g.few in (
-      omega (arith, turn.inv.0),
-      called.carry-times.auto.1.1.1.0 ∙ turn.inv.1,
-      rising_less _ g.lent.degree _ _ g.enough more turn.inv.0 room.0 (omega (arith, room.1, turn.inv.1)) turn.inv.2
-          called.carry-times.ensures,
+    let more : 0 < turn.j = omega (arith, here.loop-j-test.true) in
+    let room = fits _ _ more turn.invariant.0 g.few in (
+      omega (arith, turn.invariant.0),
+      called.carry_times.auto.s ∙ turn.invariant.1,
+      rising_less _ g.lent.degree _ _ g.enough more turn.invariant.0 room.0 (omega (arith, room.1, turn.invariant.1)) turn.invariant.2
+          called.carry_times.ensures,
     )
 
 -- the coefficients are in the array
-held : tie.Need-array-share-prefix-w invariant-loop decreases-loop
-held c = omega (arith, c.before.loop.invariant.1, (given (start (entered c.before))).few)
+held : tie.Need-slice_bounds-w-end invariant-loop decreases-loop
+held c = omega (arith, c.loop-j.invariant.1, (given (start (entered c.before))).few)
 
 returns : tie.Need-returns invariant-loop decreases-loop
 returns c =
     let stored = c.before.before in
-    let turn = stored.before.before.before.before.loop in
+    let turn = stored.loop-j in
     let s = start (entered stored.before.before.before.before) in
     let g = given s in
-    let done : turn.j ≡ 0 = omega (arith, stored.before.before.before.loop-test.false) in
-    stored.store2.ensures
+    let done : turn.j ≡ 0 = omega (arith, stored.loop-j-test.false) in
+    stored.store-2.ensures
     ∙ ap (λ (v : List ℕ). lay s.args.at v s.args.s.now)
     (rising-end _ g.lent.degree _ _ g.enough done (omega (arith, turn.invariant.1, g.few)) turn.invariant.2)
 
-pub coefficients-spec : {M : Type 1} → statement M
-coefficients-spec = tie.close (tie.spec invariant-loop decreases-loop
+pub coefficients_spec : {M : Type 1} → statement M
+coefficients_spec = tie.close (tie.spec invariant-loop decreases-loop
     (λ c. search rules)
     (λ c κs. omega (arith, (given (start c)).few))
     (λ c. let g = given (start c.before.before) in (
       omega arith,
-      c.before.store.auto.1.0,
-      rising_start _ g.lent.degree _ _ g.enough 400 (omega (arith, g.few)) c.before.store.ensures,
+      c.store.auto.s,
+      rising_start _ g.lent.degree _ _ g.enough 400 (omega (arith, g.few)) c.store.ensures,
     ))
     (λ c. search rules)
     (λ c. search rules)
     (λ c. omega (arith, (given (at-start c)).few))
     (λ c. search rules)
-    (λ c. omega (arith, places c.before, c.before.loop-test.true))
+    (λ c. omega (arith, places c.before, c.loop-j-test.true))
     (λ c. search rules)
     (λ c. search rules)
     carry-times-requires
-    (λ c. omega (arith, (reading c.before.before).loop-test.taken))
-    (λ c. omega (arith, (reading c.before.before).loop-test.taken))
+    (λ c. omega (arith, c.loop-j-test.true))
+    (λ c. omega (arith, c.loop-j-test.true))
     loop-again
     held
     (λ c. sym (length-take-le _ _ (held c.before)))
     (λ c κs. let e = c.before.before in
     rw (length-take-le _ _ (held e)) (given (start (entered e.before))).room)
-    (λ c. c.before.before.store2.auto.1.0)
+    (λ c. c.store-2.auto.s)
     returns)

@@ -16,40 +16,40 @@ use borrow.Author.Rules.{rules}
 use Rattle.rows.proofs.evaluate.Statement.{statement}
 use Rattle.rows.proofs.evaluate.Tie as tie
 
-abbrev invariant-loop : tie.invariant-loop
+abbrev invariant-loop : tie.invariant-loop-i
 invariant-loop table degree xs nodes us s₀ at i₀ s i =
     (i ≤ length xs) × (s ≡ lay at (map (newton_value_lem (gf degree) (length us) nodes us) (take i xs)) s₀)
 
-abbrev decreases-loop : tie.decreases-loop
+abbrev decreases-loop : tie.decreases-loop-i
 decreases-loop table degree xs nodes us s₀ at i₀ s i = length xs - i
 
-abbrev start : tie.At-loop invariant-loop decreases-loop → tie.Start invariant-loop decreases-loop
+abbrev start : tie.At-loop-i invariant-loop decreases-loop → tie.Start invariant-loop decreases-loop
 start c = c.before.before.before.before.before
 
-abbrev reading : tie.After-evaluate-some-arg2 invariant-loop decreases-loop → tie.After-some invariant-loop decreases-loop
+abbrev reading : tie.After-evaluate_some-arg-in-loop-i-1 invariant-loop decreases-loop → tie.After-some-n invariant-loop decreases-loop
 reading c = c.before.before
 
-abbrev called : tie.After-slice-known2 invariant-loop decreases-loop → tie.After-some invariant-loop decreases-loop
+abbrev called : tie.After-slice_known-in-loop-i-1 invariant-loop decreases-loop → tie.After-some-n invariant-loop decreases-loop
 called c = reading c.before.before.before
 
 -- the points of a turn are there
-within : (c : tie.After-some invariant-loop decreases-loop)
-    → c.before.before.loop.i + c.some.result ≤ length (start c.before.before).args.xs.now
-within c = omega (arith, c.some.ensures, c.before.before.loop.invariant.0)
+within : (c : tie.After-some-n invariant-loop decreases-loop)
+    → c.loop-i.i + c.some-n.result ≤ length c.args.xs.now
+within c = omega (arith, c.some-n.ensures, c.loop-i.invariant.0)
 
-evaluate-some-requires : tie.Need-evaluate-some-requires invariant-loop decreases-loop
+evaluate-some-requires : tie.Need-evaluate_some-requires invariant-loop decreases-loop
 unfolding part
 evaluate-some-requires c κs =
     let turned = reading c in
     let turn = turned.before.before in
     let s = start turn in
-    let i = turn.loop.i in
-    let n = turned.some.result in
+    let i = turn.loop-i.i in
+    let n = turned.some-n.result in
     let xs = s.args.xs.now in
-    let ((degree, table), ((points, nodes, coefficients), (some, enough, room))) = s.pre in
+    let ((degree, table), ((points, nodes, coefficients), (some, enough, room))) = s.requires in
     let e : i + n - i ≡ n = omega arith in
     let size : length (part i (i + n - i) xs) ≡ i + n - i = length_part i (i + n - i) xs (omega (arith, within turned)) in
-    let long : length turn.loop.s ≡ length s.args.s.now = ap length turn.loop.inv.1 ∙ length-lay _ _ _ in (
+    let long : length turn.loop-i.s ≡ length s.args.s.now = ap length turn.loop-i.invariant.1 ∙ length-lay _ _ _ in (
       record {
         lent = record { degree = degree; table = table };
         points = symbols_part _ i (i + n - i) xs (omega (arith, within turned))
@@ -60,36 +60,36 @@ evaluate-some-requires c κs =
         enough = enough;
         room = omega (arith, size, long, room, within turned);
       },
-      omega (arith, size, turned.some.ensures),
+      omega (arith, size, turned.some-n.ensures),
     )
 
-loop-again : tie.Need-loop-preserved invariant-loop decreases-loop
+loop-again : tie.Need-loop-i-preserved invariant-loop decreases-loop
 loop-again c =
     let turned = called c in
     let turn = turned.before.before in
     let s = start turn in
-    let (field, (symbols, (some, enough, room))) = s.pre in (
+    let (field, (symbols, (some, enough, room))) = s.requires in (
       within turned,
-      more_values _ _ _ _ turn.loop.i turned.some.result (within turned) room turn.loop.inv.1
-          c.before.before.evaluate-some.ensures,
+      more_values _ _ _ _ turn.loop-i.i turned.some-n.result (within turned) room turn.loop-i.invariant.1
+          c.evaluate_some.ensures,
     )
 
 returns : tie.Need-returns invariant-loop decreases-loop
 returns c =
     let turn = c.before in
-    let a = (start turn).args in
-    let end : turn.loop.i ≡ length a.xs.now = omega (arith, turn.loop.invariant.0, c.loop-test.false) in
-    turn.loop.invariant.1 ∙ rw (end, take-length)
+    let a = turn.args in
+    let end : turn.loop-i.i ≡ length a.xs.now = omega (arith, turn.loop-i.invariant.0, c.loop-i-test.false) in
+    turn.loop-i.invariant.1 ∙ rw (end, take-length)
 
-pub evaluate-spec : {M : Type 1} → statement M
-evaluate-spec =
+pub evaluate_spec : {M : Type 1} → statement M
+evaluate_spec =
     tie.close
     (tie.spec
     invariant-loop
     decreases-loop
     (λ c. (omega arith, sym (lay_none _ _)))
     (λ c. search rules)
-    (λ c κs. omega (arith, c.loop-test.true))
+    (λ c κs. omega (arith, c.loop-i-test.true))
     (λ c. omega (arith, within c))
     (λ c. search rules)
     (λ c. search rules)
@@ -97,7 +97,7 @@ evaluate-spec =
     (λ c. search rules)
     evaluate-some-requires
     (λ c. omega (arith, within (called c)))
-    (λ c. omega (arith, within (called c), (called c).some.ensures))
+    (λ c. omega (arith, within (called c), c.some-n.ensures))
     loop-again
-    (λ c. rw c.before.loop.invariant.1 (length-lay _ _ _))
+    (λ c. rw c.loop-i.invariant.1 (length-lay _ _ _))
     returns)

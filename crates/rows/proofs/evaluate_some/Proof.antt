@@ -12,10 +12,10 @@ use borrow.Author.Rules.{rules}
 use Rattle.rows.proofs.evaluate_some.Statement.{statement}
 use Rattle.rows.proofs.evaluate_some.Tie as tie
 
-abbrev start : tie.After-ys → tie.Start
+abbrev start : tie.After-ys-1 → tie.Start
 start c = c.before.before.before.before.before
 
-abbrev held : tie.After-ys2 → tie.After-ys
+abbrev held : tie.After-ys-2-1 → tie.After-ys-1
 held c = c.before.before
 
 -- the sixteens have all points, and are within the array
@@ -25,23 +25,23 @@ sixteens n most = (omega arith, omega arith)
 whole : (n : ℕ) → (n + 15) / 16 * 16 % 16 ≡ 0
 whole n = omega arith
 
-few : (c : tie.After-ys) → length (start c).args.xs.now ≤ 96
-few c = (start c).requires.1
+few : (c : tie.After-ys-1) → length c.args.xs.now ≤ 96
+few c = c.requires.1
 
-count : (c : tie.After-ys) → let n = length (start c).args.xs.now in (n ≤ (n + 15) / 16 * 16) × ((n + 15) / 16 * 16 ≤ 96)
+count : (c : tie.After-ys-1) → let n = length c.args.xs.now in (n ≤ (n + 15) / 16 * 16) × ((n + 15) / 16 * 16 ≤ 96)
 count c = sixteens _ (few c)
 
-evaluate-whole-requires : tie.Need-evaluate-whole-requires
+evaluate-whole-requires : tie.Need-evaluate_whole-requires
 evaluate-whole-requires c κs =
     let stored = c.before.before in
     let first = held stored in
     let n = count first in
-    let xs = (start first).args.xs.now in
-    let g = (start first).pre.0 in
-    let size = rounded xs 96 _ stored.before.store.ensures n.0 n.1 in (
+    let xs = first.args.xs.now in
+    let g = first.requires.0 in
+    let size = rounded xs 96 _ stored.store.ensures n.0 n.1 in (
       record {
         lent = g.lent;
-        points = rounded_in xs 96 _ stored.before.store.ensures n.0 n.1 _ g.points;
+        points = rounded_in xs 96 _ stored.store.ensures n.0 n.1 _ g.points;
         nodes_in = g.nodes_in;
         coefficients = g.coefficients;
         some = g.some;
@@ -51,12 +51,12 @@ evaluate-whole-requires c κs =
       rw size (whole (length xs)),
     )
 
-abbrev made : tie.After-vs2 → tie.After-vs
+abbrev made : tie.After-vs-2-1 → tie.After-vs-1
 made c = c.before.before
 
 -- the values that count are in the array
-valued-in : tie.Need-array-share-prefix-vs
-valued-in c = omega (arith, few (held (made c).before.before), c.before.evaluate-whole.auto)
+valued-in : tie.Need-slice_bounds-vs-end
+valued-in c = omega (arith, few (held (made c).before.before), c.evaluate_whole.auto)
 
 returns : tie.Need-returns
 returns c =
@@ -66,26 +66,26 @@ returns c =
     let first = held stored in
     let s = start first in
     let n = count first in
-    called.store2.ensures
+    called.store-2.ensures
     ∙ ap (λ (v : List ℕ). lay s.args.at v s.args.s.now)
-    (front_values s.args.xs.now 96 _ stored.before.store.ensures n.0 n.1 _ _ n.1
-    valued.before.evaluate-whole.ensures)
+    (front_values s.args.xs.now 96 _ stored.store.ensures n.0 n.1 _ _ n.1
+    valued.evaluate_whole.ensures)
 
-pub evaluate-some-spec : {M : Type 1} → statement M
-evaluate-some-spec =
+pub evaluate_some_spec : {M : Type 1} → statement M
+evaluate_some_spec =
     tie.close
     (tie.spec
     (λ c. search rules)
     (λ c κs. omega (arith, few c))
     (λ c. search rules)
     (λ c. omega (arith, count (held c)))
-    (λ c. omega (arith, count (held c), c.before.store.auto))
-    (λ c. sym (rounded _ 96 _ c.before.before.store.ensures (count (held c.before)).0 (count (held c.before)).1))
+    (λ c. omega (arith, count (held c), c.store.auto))
+    (λ c. sym (rounded _ 96 _ c.store.ensures (count (held c.before)).0 (count (held c.before)).1))
     (λ c. search rules)
     evaluate-whole-requires
     valued-in
     (λ c. sym (length-take-le _ _ (valued-in c.before)))
     (λ c κs. let e = c.before.before in
     rw (length-take-le _ _ (valued-in e)) (start (held (made e).before.before)).requires.0.room)
-    (λ c. c.before.before.store2.auto.1.0)
+    (λ c. c.store-2.auto.s)
     returns)

@@ -12,26 +12,23 @@ use borrow.Author.Rules.{rules}
 use Rattle.rows.proofs.inverses.Statement.{statement}
 use Rattle.rows.proofs.inverses.Tie as tie
 
-abbrev invariant-loop : tie.invariant-loop
+abbrev invariant-loop : tie.invariant-loop-i
 invariant-loop table degree points j w₀ at i₀ w i = Filling at (length points - (j + 1)) (inverse degree points j) w₀ w i
 
-abbrev decreases-loop : tie.decreases-loop
+abbrev decreases-loop : tie.decreases-loop-i
 decreases-loop table degree points j w₀ at i₀ w i = length points - (j + 1) - i
 
-abbrev start : tie.In-loop invariant-loop decreases-loop → tie.Start invariant-loop decreases-loop
-start c = c.before.before.before.before
-
-abbrev reading : tie.After-shared-slice-known3 invariant-loop decreases-loop → tie.In-loop invariant-loop decreases-loop
+abbrev reading : tie.After-shared_slice_known-in-loop-i-2-1 invariant-loop decreases-loop → tie.In-loop-i invariant-loop decreases-loop
 reading c = c.before.before
 
-quotient-from-requires : tie.Need-quotient-from-requires invariant-loop decreases-loop
+quotient-from-requires : tie.Need-quotient_from-requires invariant-loop decreases-loop
 unfolding plus
 quotient-from-requires c κs =
     let here = reading c in
-    let a = (start here).args in
-    let given = (start here).pre in
+    let a = here.args in
+    let given = here.requires in
     let good = given.lent.degree in
-    let later : a.j + 1 + here.before.loop.i < length a.points.now = omega (arith, here.loop-test.taken) in
+    let later : a.j + 1 + here.loop-i.i < length a.points.now = omega (arith, here.loop-i-test.true) in
     record {
       lent = given.lent;
       left = (field _ good).one_in;
@@ -39,22 +36,22 @@ quotient-from-requires c κs =
       nonzero = divisor _ good _ _ _ given.points (omega arith) later;
     }
 
-loop-again : tie.Need-loop-preserved invariant-loop decreases-loop
+loop-again : tie.Need-loop-i-preserved invariant-loop decreases-loop
 unfolding plus inverse
 loop-again c =
     let here = reading c.before in
-    turn here.before.loop.inv here.loop-test.taken c.quotient-from.ensures
+    turn here.loop-i.invariant here.loop-i-test.true c.quotient_from.ensures
 
-pub inverses-spec : {M : Type 1} → statement M
-inverses-spec =
+pub inverses_spec : {M : Type 1} → statement M
+inverses_spec =
     tie.close (tie.spec invariant-loop decreases-loop
     (λ c. filling)
     (λ c. search rules) (λ c. search rules) (λ c. search rules) (λ c. search rules) (λ c. search rules) (λ c. search rules)
     quotient-from-requires
     (λ c. search rules)
     (λ c. let here = reading c.before in
-    slot here.before.loop.inv here.loop-test.taken (omega (arith, (start here).pre.room)))
+    slot here.loop-i.invariant here.loop-i-test.true (omega (arith, here.requires.room)))
     (λ c. search rules) (λ c. search rules)
     loop-again
-    (λ c. kept-length c.before.loop.invariant)
-    (λ c. filled c.before.loop.invariant (omega arith)))
+    (λ c. kept-length c.loop-i.invariant)
+    (λ c. filled c.loop-i.invariant (omega arith)))

@@ -13,21 +13,21 @@ use borrow.Author.Rules.{rules}
 use Rattle.rows.proofs.values.Statement.{statement}
 use Rattle.rows.proofs.values.Tie as tie
 
-abbrev start : tie.After-evaluate-arg → tie.Start
+abbrev start : tie.After-evaluate-arg-1 → tie.Start
 start c = c.before.before.before.before.before
 
 evaluate-requires : tie.Need-evaluate-requires
-evaluate-requires c κs = let (lent, ((points, coefficients), counts)) = (start c).requires in
+evaluate-requires c κs = let (lent, ((points, coefficients), counts)) = c.requires in
     (lent, ((points, symbols_zeros _ 96, coefficients), counts))
 
 returns : tie.Need-returns
 returns c = let first = start c.before.before.before in
-    let ((degree, table), (symbols, (some, few, room))) = first.pre in
+    let ((degree, table), (symbols, (some, few, room))) = first.requires in
     let a = first.args in
     let A = gf a.degree in
     let 𝓕 = field a.degree degree in
-    c.before.before.evaluate.ensures
+    c.evaluate.ensures
     ∙ ap (λ (v : List ℕ). lay a.at v a.s.now) (plain_values A 𝓕 (replicate 96 0) _ _ (zeros A 𝓕 96) few)
 
-pub values-spec : {M : Type 1} → statement M
-values-spec = tie.close (tie.spec (λ c. search rules) evaluate-requires (λ c. search rules) returns)
+pub values_spec : {M : Type 1} → statement M
+values_spec = tie.close (tie.spec (λ c. search rules) evaluate-requires (λ c. search rules) returns)

@@ -8,15 +8,15 @@ use Rattle.field.proofs.bits.four_more.Tie as tie
 
 returns : tie.Need-returns
 returns c = (
-  c.bit-more4.ensures.1,
+  c.bit_more.ensures.1,
   λ n e. low_step _ (suc (suc (suc n))) _ _ (low_step _ (suc (suc n)) _ _ (low_step _ (suc n) _ _ (low_step _ n _ _ e
-      c.before.before.before.bit-more.ensures.0)
-      c.before.before.bit-more2.ensures.0)
-      c.before.bit-more3.ensures.0)
-      c.bit-more4.ensures.0,
+      c.bit_more-v3.ensures.0)
+      c.bit_more-v2.ensures.0)
+      c.bit_more-v1.ensures.0)
+      c.bit_more.ensures.0,
 )
 
-pub four-more-spec : {M : Type 1} → statement M
-four-more-spec =
+pub four_more_spec : {M : Type 1} → statement M
+four_more_spec =
     tie.close (tie.spec (λ c κs. search rules) (λ c κs. search rules) (λ c κs. search rules) (λ c κs. search rules)
     returns)

@@ -7,6 +7,6 @@ use Rattle.field.proofs.bits.half.Tie as tie
 
 pub half_spec : {M : Type 1} → statement M
 half_spec = tie.close (tie.spec
-    (λ c. rw c.if1.true refl)
-    (λ c. rw c.if2.true refl)
-    (λ c. rw (last _ c.before.before.requires c.before.if1.false c.if2.false) refl))
+    (λ c. rw c.if-degree-eq2.true refl)
+    (λ c. rw c.if-degree-eq4.true refl)
+    (λ c. rw (last _ c.requires c.if-degree-eq2.false c.if-degree-eq4.false) refl))

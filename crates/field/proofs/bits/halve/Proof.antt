@@ -25,17 +25,17 @@ half_modulus d h = go (degrees d h)
     go (inr (inl e)) = rw e
     go (inr (inr e)) = rw e
 
-returns : tie.Need-returns
+returns : tie.Need-returns-then-v-eq0
 unfolding halved
-returns c = rw (c.if1.true, zero-mul, plus-zero)
+returns c = rw (c.if-v-eq0.true, zero-mul, plus-zero)
 
-returns-2 : tie.Need-returns-2
+returns-2 : tie.Need-returns-else-v-eq0
 unfolding halved plus
 returns-2 c =
-    let g = c.before.requires.0 in
-    let d = c.before.args.degree in
-    let odd : c.before.args.v % 2 ≡ 1 = omega (arith, c.if1.false, bit_lt c.before.args.v) in
-    ap (plus (c.before.args.v / 2)) (rw (g.rest, g.top, odd, one-mul) (half_modulus d g.degree))
+    let g = c.requires.0 in
+    let d = c.args.degree in
+    let odd : c.args.v % 2 ≡ 1 = omega (arith, c.if-v-eq0.false, bit_lt c.args.v) in
+    ap (plus (c.args.v / 2)) (rw (g.rest, g.top, odd, one-mul) (half_modulus d g.degree))
 
-pub halve-spec : {M : Type 1} → statement M
-halve-spec = tie.close (tie.spec returns returns-2)
+pub halve_spec : {M : Type 1} → statement M
+halve_spec = tie.close (tie.spec returns returns-2)

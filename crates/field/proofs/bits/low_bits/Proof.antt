@@ -6,17 +6,17 @@ use Rattle.field.proofs.BitByBit.{last}
 use Rattle.field.proofs.bits.low_bits.Statement.{statement}
 use Rattle.field.proofs.bits.low_bits.Tie as tie
 
-returns : tie.Need-returns
+returns : tie.Need-returns-then-degree-eq2
 unfolding modulus
-returns c = rw c.if1.true refl
+returns c = rw c.if-degree-eq2.true refl
 
-returns-2 : tie.Need-returns-2
+returns-2 : tie.Need-returns-then-degree-eq4
 unfolding modulus
-returns-2 c = rw c.if2.true refl
+returns-2 c = rw c.if-degree-eq4.true refl
 
-returns-3 : tie.Need-returns-3
+returns-3 : tie.Need-returns
 unfolding modulus
-returns-3 c = rw (last _ c.before.before.requires c.before.if1.false c.if2.false) refl
+returns-3 c = rw (last _ c.requires c.if-degree-eq2.false c.if-degree-eq4.false) refl
 
-pub low-bits-spec : {M : Type 1} → statement M
-low-bits-spec = tie.close (tie.spec returns returns-2 returns-3)
+pub low_bits_spec : {M : Type 1} → statement M
+low_bits_spec = tie.close (tie.spec returns returns-2 returns-3)

@@ -10,28 +10,28 @@ use borrow.Author.Rules.{rules}
 use Rattle.field.proofs.bits.product_by_bits.Statement.{statement}
 use Rattle.field.proofs.bits.product_by_bits.Tie as tie
 
-returns : tie.Need-returns
+returns : tie.Need-returns-then-degree-le4
 returns c =
-    let (w, s) = c.before.before.requires.1 in
-    c.four-more.ensures.1 0 (low_zero _ _ _) ∙ low_times _ 4 _ _ c.before.if1.true w s
+    let (w, s) = c.requires.1 in
+    c.four_more.ensures.1 0 (low_zero _ _ _) ∙ low_times _ 4 _ _ c.if-degree-le4.true w s
 
 -- the top bit of a byte, in the field of 256
-reducer : (c : tie.Else1) → Reducer c.before.args.degree 128 c.before.args.low
+reducer : (c : tie.Else-degree-le4) → Reducer c.args.degree 128 c.args.low
 reducer c =
-    let given = c.before.requires.0 in
-    record { degree = given.degree; top = rw (eight _ given.degree c.if1.false) refl; rest = given.rest }
+    let given = c.requires.0 in
+    record { degree = given.degree; top = rw (eight _ given.degree c.if-degree-le4.false) refl; rest = given.rest }
 
 -- the second factor is a symbol
-second : (c : tie.Else1) → c.before.args.s < 2 ^ c.before.args.degree
-second c = let (w, s) = c.before.requires.1 in s
+second : (c : tie.Else-degree-le4) → c.args.s < 2 ^ c.args.degree
+second c = let (w, s) = c.requires.1 in s
 
-returns-2 : tie.Need-returns-2
+returns-2 : tie.Need-returns
 returns-2 c =
-    let (given, (w, s)) = c.before.before.before.requires in
-    c.four-more3.ensures.1 4 (rw (sixteenth _) at (c.before.four-more2.ensures.1 0 (low_zero _ _ _)))
+    let (given, (w, s)) = c.requires in
+    c.four_more-2.ensures.1 4 (rw (sixteenth _) at (c.four_more-higher.ensures.1 0 (low_zero _ _ _)))
     ∙ low_times _ 8 _ _ (up_to_eight _ given.degree) w s
 
-pub product-by-bits-spec : {M : Type 1} → statement M
-product-by-bits-spec =
+pub product_by_bits_spec : {M : Type 1} → statement M
+product_by_bits_spec =
     tie.close (tie.spec (λ c κs. search rules) returns (λ c κs. (reducer c, (second c, pow_pos _)))
-    (λ c κs. (reducer c.before, (second c.before, c.four-more2.ensures.0))) returns-2)
+    (λ c κs. (reducer c.before, (second c.before, c.four_more-higher.ensures.0))) returns-2)

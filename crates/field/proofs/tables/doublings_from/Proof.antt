@@ -14,7 +14,7 @@ use Rattle.field.proofs.tables.doublings_from.Statement.{statement}
 use Rattle.field.proofs.tables.doublings_from.Tie as tie
 
 -- what is given, and what a doubling asks for
-module _ (c : tie.After-low-bits) where
+module _ (c : tie.After-low_bits-low) where
   abbrev start : tie.Start
   start = c.before.before
 
@@ -25,17 +25,17 @@ module _ (c : tie.After-low-bits) where
   symbol = start.args.c
 
   tests : Generated d
-  tests = let (degree, (lent, symbol)) = start.pre in generated _ degree
+  tests = let (degree, (lent, symbol)) = start.requires in generated _ degree
 
-  reducer : Reducer d c.before.half.result c.low-bits.result
-  reducer = let (degree, (lent, symbol)) = start.pre in
-      record { degree = degree; top = c.before.half.ensures; rest = c.low-bits.ensures }
+  reducer : Reducer d c.half-half.result c.low_bits-low.result
+  reducer = let (degree, (lent, symbol)) = start.requires in
+      record { degree = degree; top = c.half-half.ensures; rest = c.low_bits-low.ensures }
 
   below : symbol < 2 ^ d
-  below = let (degree, (lent, symbol)) = start.pre in symbol
+  below = let (degree, (lent, symbol)) = start.requires in symbol
 
   -- the i-th doubling is a symbol
-  asked : (i : ℕ) {v : ℕ} → v ≡ times d (2 ^ i) symbol → Reducer d c.before.half.result c.low-bits.result × (v < 2 ^ d)
+  asked : (i : ℕ) {v : ℕ} → v ≡ times d (2 ^ i) symbol → Reducer d c.half-half.result c.low_bits-low.result × (v < 2 ^ d)
   asked i e = (reducer, rw e (times_below d tests.tested (2 ^ i) symbol))
 
   -- and x times it is the next
@@ -48,57 +48,57 @@ module _ (c : tie.After-low-bits) where
   zeroth : symbol ≡ times d (2 ^ 0) symbol
   zeroth = first_doubling d tests symbol below
 
-abbrev in4 : tie.Else1 → tie.After-low-bits
+abbrev in4 : tie.Else-degree-eq2 → tie.After-low_bits-low
 in4 c = c.before.before
 
-abbrev in8 : tie.Else2 → tie.After-low-bits
+abbrev in8 : tie.Else-degree-eq4 → tie.After-low_bits-low
 in8 c = in4 c.before.before.before
 
-second : (c : tie.After-double) → let at = c.before in c.double.result ≡ times (d at) (2 ^ 1) (symbol at)
-second c = let at = c.before in next at 0 (two _ (reducer at).degree) (zeroth at) c.double.ensures
+second : (c : tie.After-double-c1) → let at = c.before in c.double-c1.result ≡ times (d at) (2 ^ 1) (symbol at)
+second c = let at = c.before in next at 0 (two _ (reducer at).degree) (zeroth at) c.double-c1.ensures
 
-four-left : (c : tie.Else1) → 3 < d (in4 c)
-four-left c = four _ (reducer (in4 c)).degree c.if1.false
+four-left : (c : tie.Else-degree-eq2) → 3 < d (in4 c)
+four-left c = four _ (reducer (in4 c)).degree c.if-degree-eq2.false
 
-third : (c : tie.After-double2) → let at = in4 c.before in c.double2.result ≡ times (d at) (2 ^ 2) (symbol at)
-third c = next (in4 c.before) 1 (omega (arith, four-left c.before)) (second c.before.before) c.double2.ensures
+third : (c : tie.After-double-c2) → let at = in4 c.before in c.double-c2.result ≡ times (d at) (2 ^ 2) (symbol at)
+third c = next (in4 c.before) 1 (omega (arith, four-left c.before)) (second c.before.before) c.double-c2.ensures
 
-fourth : (c : tie.After-double3) → let at = in4 c.before.before in c.double3.result ≡ times (d at) (2 ^ 3) (symbol at)
-fourth c = next (in4 c.before.before) 2 (omega (arith, four-left c.before.before)) (third c.before) c.double3.ensures
+fourth : (c : tie.After-double-c3) → let at = in4 c.before.before in c.double-c3.result ≡ times (d at) (2 ^ 3) (symbol at)
+fourth c = next (in4 c.before.before) 2 (omega (arith, four-left c.before.before)) (third c.before) c.double-c3.ensures
 
-eight-left : (c : tie.Else2) → d (in8 c) ≡ 8
-eight-left c = last _ (reducer (in8 c)).degree c.before.before.before.if1.false c.if2.false
+eight-left : (c : tie.Else-degree-eq4) → d (in8 c) ≡ 8
+eight-left c = last _ (reducer (in8 c)).degree c.if-degree-eq2.false c.if-degree-eq4.false
 
-fifth : (c : tie.After-double4) → let at = in8 c.before in c.double4.result ≡ times (d at) (2 ^ 4) (symbol at)
-fifth c = next (in8 c.before) 3 (omega (arith, eight-left c.before)) (fourth c.before.before) c.double4.ensures
+fifth : (c : tie.After-double-c4) → let at = in8 c.before in c.double-c4.result ≡ times (d at) (2 ^ 4) (symbol at)
+fifth c = next (in8 c.before) 3 (omega (arith, eight-left c.before)) (fourth c.before.before) c.double-c4.ensures
 
-sixth : (c : tie.After-double5) → let at = in8 c.before.before in c.double5.result ≡ times (d at) (2 ^ 5) (symbol at)
-sixth c = next (in8 c.before.before) 4 (omega (arith, eight-left c.before.before)) (fifth c.before) c.double5.ensures
+sixth : (c : tie.After-double-c5) → let at = in8 c.before.before in c.double-c5.result ≡ times (d at) (2 ^ 5) (symbol at)
+sixth c = next (in8 c.before.before) 4 (omega (arith, eight-left c.before.before)) (fifth c.before) c.double-c5.ensures
 
-seventh : (c : tie.After-double6) → let at = in8 c.before.before.before in c.double6.result ≡ times (d at) (2 ^ 6) (symbol at)
+seventh : (c : tie.After-double-c6) → let at = in8 c.before.before.before in c.double-c6.result ≡ times (d at) (2 ^ 6) (symbol at)
 seventh c = let left = c.before.before.before in
-    next (in8 left) 5 (omega (arith, eight-left left)) (sixth c.before) c.double6.ensures
+    next (in8 left) 5 (omega (arith, eight-left left)) (sixth c.before) c.double-c6.ensures
 
-eighth : (c : tie.After-double7) → let at = in8 c.before.before.before.before in c.double7.result ≡ times (d at) (2 ^ 7) (symbol at)
+eighth : (c : tie.After-double-c7) → let at = in8 c.before.before.before.before in c.double-c7.result ≡ times (d at) (2 ^ 7) (symbol at)
 eighth c = let left = c.before.before.before.before in
-    next (in8 left) 6 (omega (arith, eight-left left)) (seventh c.before) c.double7.ensures
+    next (in8 left) 6 (omega (arith, eight-left left)) (seventh c.before) c.double-c7.ensures
 
-returns : tie.Need-returns
+returns : tie.Need-returns-then-degree-eq2
 returns c =
     let at = c.before.before in
-    let none : (i : ℕ) → 2 ≤ i → 0 ≡ times (d at) (2 ^ i) (symbol at) = λ i h. ended at i (omega (arith, c.if1.true)) in
+    let none : (i : ℕ) → 2 ≤ i → 0 ≡ times (d at) (2 ^ i) (symbol at) = λ i h. ended at i (omega (arith, c.if-degree-eq2.true)) in
     eight_doublings (d at) (symbol at) (zeroth at) (second c.before) (none 2 (omega arith)) (none 3 (omega arith)) (none 4 (omega arith))
     (none 5 (omega arith)) (none 6 (omega arith)) (none 7 (omega arith))
 
-returns-2 : tie.Need-returns-2
+returns-2 : tie.Need-returns-then-degree-eq4
 returns-2 c =
     let left = c.before.before.before in
     let at = in4 left in
-    let none : (i : ℕ) → 4 ≤ i → 0 ≡ times (d at) (2 ^ i) (symbol at) = λ i h. ended at i (omega (arith, c.if2.true)) in
+    let none : (i : ℕ) → 4 ≤ i → 0 ≡ times (d at) (2 ^ i) (symbol at) = λ i h. ended at i (omega (arith, c.if-degree-eq4.true)) in
     eight_doublings (d at) (symbol at) (zeroth at) (second left.before) (third c.before.before) (fourth c.before)
     (none 4 (omega arith)) (none 5 (omega arith)) (none 6 (omega arith)) (none 7 (omega arith))
 
-returns-3 : tie.Need-returns-3
+returns-3 : tie.Need-returns
 returns-3 c =
     let left = c.before.before.before.before in
     let at = in8 left in
@@ -106,10 +106,10 @@ returns-3 c =
     eight_doublings (d at) (symbol at) (zeroth at) (second three.before.before.before) (third three.before) (fourth three)
     (fifth c.before.before.before) (sixth c.before.before) (seventh c.before) (eighth c)
 
-pub doublings-from-spec : {M : Type 1} → statement M
-doublings-from-spec = tie.close (tie.spec
+pub doublings_from_spec : {M : Type 1} → statement M
+doublings_from_spec = tie.close (tie.spec
     (λ c κs. c.requires.0)
-    (λ c κs. c.before.requires.0)
+    (λ c κs. c.requires.0)
     (λ c κs. asked c 0 (zeroth c))
     returns
     (λ c κs. asked (in4 c) 1 (second c.before))

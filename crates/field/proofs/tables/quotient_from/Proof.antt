@@ -13,27 +13,27 @@ use Rattle.field.proofs.tables.quotient_from.Statement.{statement}
 use Rattle.field.proofs.tables.quotient_from.Tie as tie
 
 -- at the divisor stands its inverse
-inverse : (c : tie.After-wide) → let s = c.before.args in Quotient s.degree 1 s.b (get_or s.table.now c.wide.result 0)
+inverse : (c : tie.After-wide) → let s = c.args in Quotient s.degree 1 s.b (get_or s.table.now c.wide.result 0)
 unfolding IsTable
-inverse c = let p = c.before.requires in
-    rw c.wide.ensures (p.lent.table c.before.args.b p.right p.nonzero)
+inverse c = let p = c.requires in
+    rw c.wide.ensures (p.lent.table c.args.b p.right p.nonzero)
 
-returns : tie.Need-returns
+returns : tie.Need-returns-then-a-eq1
 returns c =
     let at = c.before.before in
-    let p = at.before.requires in
-    rw c.if1.true (over_one _ (generated _ p.lent.degree) p.right p.nonzero (inverse at))
+    let p = at.requires in
+    rw c.if-a-eq1.true (over_one _ (generated _ p.lent.degree) p.right p.nonzero (inverse at.before))
 
-returns-2 : tie.Need-returns-2
+returns-2 : tie.Need-returns
 returns-2 c =
     let at = c.before.before.before in
-    let p = at.before.requires in
-    c.product.ensures ∙ quotient_by _ (generated _ p.lent.degree) p.left p.right p.nonzero (inverse at)
+    let p = at.requires in
+    c.product.ensures ∙ quotient_by _ (generated _ p.lent.degree) p.left p.right p.nonzero (inverse at.before)
 
-pub quotient-from-spec : {M : Type 1} → statement M
-quotient-from-spec = tie.close (tie.spec
+pub quotient_from_spec : {M : Type 1} → statement M
+quotient_from_spec = tie.close (tie.spec
     (λ c κs. search rules)
-    (λ c. let p = c.before.requires in omega (arith, c.wide.ensures, p.right, field_size _ p.lent.degree))
+    (λ c. let p = c.requires in omega (arith, c.wide.ensures, p.right, field_size _ p.lent.degree))
     returns
-    (λ c κs. let at = c.before.before in let p = at.before.requires in (p.lent.degree, (p.left, (inverse at).symbol)))
+    (λ c κs. let at = c.before.before in let p = at.requires in (p.lent.degree, (p.left, (inverse at.before).symbol)))
     returns-2)

@@ -16,71 +16,71 @@ use borrow.Author.Rules.{rules}
 use Rattle.mark.proofs.encoding.write_rows.Statement.{statement}
 use Rattle.mark.proofs.encoding.write_rows.Tie as tie
 
-abbrev invariant-loop : tie.invariant-loop
+abbrev invariant-loop : tie.invariant-loop-l
 invariant-loop table degree lengths points message s₀ from₀ at₀ l₀ s from at l =
     Laid (code_of degree points lengths) l from at at (encoded_rows (gf degree) points (drop l lengths) (drop from message))
     (encoded_rows (gf degree) points lengths message) s₀ s
 
-abbrev decreases-loop : tie.decreases-loop
+abbrev decreases-loop : tie.decreases-loop-l
 decreases-loop table degree lengths points message s₀ from₀ at₀ l₀ s from at l = length lengths - l
 
 abbrev code : tie.Start invariant-loop decreases-loop → Code
 code s = code_of s.args.degree s.args.points.now s.args.lengths.now
 
 -- where a row's length is read: the row, and its places
-module _ (c : tie.After-wide invariant-loop decreases-loop) where
-  abbrev turn : tie.In-loop invariant-loop decreases-loop
+module _ (c : tie.After-wide-k invariant-loop decreases-loop) where
+  abbrev turn : tie.In-loop-l invariant-loop decreases-loop
   turn = c.before.before
 
   abbrev start : tie.Start invariant-loop decreases-loop
   start = turn.before.before.before.before.before.before
 
   abbrev rest : List ℕ
-  rest = drop turn.before.loop.from start.args.message.now
+  rest = drop turn.loop-l.from start.args.message.now
 
-  row : let own = turn.before.loop in Place (code start) own.l own.from own.at c.wide.result
+  row : let own = turn.loop-l in Place (code start) own.l own.from own.at c.wide-k.result
   row = record {
-    counts = start.pre.made.counts;
-    before = turn.before.loop.inv.places;
-    here = turn.loop-test.taken;
-    count = c.wide.ensures;
+    counts = start.requires.made.counts;
+    before = turn.loop-l.invariant.places;
+    here = turn.loop-l-test.true;
+    count = c.wide-k.ensures;
   }
 
-  size : turn.before.loop.from + c.wide.result - turn.before.loop.from ≡ c.wide.result
+  size : turn.loop-l.from + c.wide-k.result - turn.loop-l.from ≡ c.wide-k.result
   size = omega arith
 
 values-requires : tie.Need-values-requires invariant-loop decreases-loop
 values-requires c κs = let t = c.before.before in
     let p = (start t).requires in
-    let own = (turn t).before.loop in
+    let own = (turn t).loop-l in
     let b = bounds (row t) in
-    let k : ℕ = own.from + t.wide.result - own.from in
+    let k : ℕ = own.from + t.wide-k.result - own.from in
     let count : length (take k (rest t)) ≡ k =
     length-take-le k (rest t) (omega (arith, length-drop own.from (start t).args.message.now, p.message.count)) in (
       (p.made.counts.degree, p.made.table),
       (
         (p.made.proper.symbols, all_take _ k (rest t) (all_drop _ own.from _ p.message.symbols)),
-        (omega (arith, count), omega (arith, count), omega (arith, own.inv.same, p.made.room)),
+        (omega (arith, count), omega (arith, count), omega (arith, own.invariant.same, p.made.room)),
       ),
     )
 
-loop-again : tie.Need-loop-preserved invariant-loop decreases-loop
+loop-again : tie.Need-loop-l-preserved invariant-loop decreases-loop
 loop-again c = let v = c.before.before in
     let t = v.before.before.before in
-    let own = (turn t).before.loop in
+    let own = (turn t).loop-l in
     let a = (start t).args in
     let values : ℕ → List ℕ = λ (k : ℕ). lay own.at (values_at (gf a.degree) a.points.now (take k (rest t))) own.s in
-    laid_next own.inv (row t) v.values.auto.1.1.1.1.0
+    laid_next own.invariant (row t) v.values.auto.s
     (encoded_more (row t) a.message.now own.s
-    (omega (arith, (bounds (row t)).symbols, own.inv.same, (start t).requires.made.room))
+    (omega (arith, (bounds (row t)).symbols, own.invariant.same, (start t).requires.made.room))
     (v.values.ensures ∙ ap values (size t)))
 
 returns : tie.Need-returns invariant-loop decreases-loop
 unfolding encoded_rows
-returns c = laid_last c.before.loop.invariant (rw (drop_of_length-le _ c.loop-test.false))
+returns c = laid_last c.loop-l.invariant (rw (drop_of_length-le _ c.loop-l-test.false))
 
-pub write-rows-spec : {M : Type 1} → statement M
-write-rows-spec = tie.close (tie.spec invariant-loop decreases-loop
+pub write_rows_spec : {M : Type 1} → statement M
+write_rows_spec = tie.close (tie.spec invariant-loop decreases-loop
     (λ c. laid-first (code c.before.before.before.before) _ _)
     (λ c. search rules) (λ c κs. search rules)
     (λ c. let b = bounds (row c) in omega arith)

@@ -9,14 +9,11 @@ use Rattle.mark.proofs.reading.read_array.Statement.{statement}
 use Rattle.mark.proofs.reading.read_array.Tie as tie
 
 -- where the largest length is known
-abbrev start : tie.After-largest → tie.Start
-start c = c.before.before.before.before.before
-
-all-inverses-requires : tie.Need-all-inverses-requires
-all-inverses-requires c κs = let a = (start c.before).args in
-    let m = (start c.before).requires.made in
+all-inverses-requires : tie.Need-all_inverses-requires
+all-inverses-requires c κs = let a = c.args in
+    let m = c.requires.made in
     let most = largest-most (length a.points.now) a.lengths.now m.counts.lengths in
-    let k = c.before.largest.ensures in (
+    let k = c.largest-k.ensures in (
       (m.counts.degree, m.table, record { symbols = m.proper.symbols; distinct = m.proper.distinct }),
       ((omega (arith, most, k), m.counts.most_columns, omega (arith, most, k, m.counts.most_columns)), symbols_zeros a.degree 9216),
     )
@@ -28,7 +25,7 @@ read_array_spec = tie.close (tie.spec
     all-inverses-requires
     (λ c. search rules)
     (λ c κs. let all = c.before.before.before in
-    let k = all.before.before in
-    record { reading = (start k).requires; inverses = rw k.largest.ensures at all.all-inverses.ensures })
+    let k = all in
+    record { reading = k.requires; inverses = rw k.largest-k.ensures at all.all_inverses.ensures })
     (λ c. search rules)
     (λ c. search rules))

@@ -15,21 +15,21 @@ use Rattle.mark.proofs.reading.read_row.Statement.{statement}
 use Rattle.mark.proofs.reading.read_row.Tie as tie
 
 -- where the row is reduced
-module _ (c : tie.After-reduce-row) where
+module _ (c : tie.After-reduce_row-good) where
   abbrev start : tie.Start
   start = c.before.before.before.before.before.before
 
   abbrev held : List ℕ
-  held = c.reduce-row.new.1.1.1.1.1.1.0
+  held = c.reduce_row-good.new.s
 
   enough : start.args.k ≤ length held
-  enough = let p = start.pre.row in omega (arith, c.reduce-row.auto.1.1.1.1.1.1.0, p.length_in, p.most_points)
+  enough = let p = start.requires.row in omega (arith, c.reduce_row-good.auto.s, p.length_in, p.most_points)
 
   front : length (take start.args.k held) ≡ start.args.k
   front = length-take-le start.args.k held enough
 
-reduce-row-requires : tie.Need-reduce-row-requires
-reduce-row-requires c κs = let s = c.before.before.before.before.before in
+reduce-row-requires : tie.Need-reduce_row-good-requires
+reduce-row-requires c κs = let s = c in
     record { row = s.requires.row; room = omega (arith, s.requires.row.most_points); symbols = symbols_zeros s.args.degree 112 }
 
 coefficients-requires : tie.Need-coefficients-requires
@@ -47,15 +47,15 @@ returns c = let v = c.before.before in
     let s = (start r).args in
     let p = (start r).requires.row in
     let d = s.degree in record {
-      zeros = r.reduce-row.ensures.zeros;
+      zeros = r.reduce_row-good.ensures.zeros;
       polynomial = v.coefficients.ensures
           ∙ ap (λ (v : List ℕ). lay s.at v s.s.now)
-          (reduced_newton d s.k s.points.now s.row.now _ p.count r.reduce-row.ensures.front
+          (reduced_newton d s.k s.points.now s.row.now _ p.count r.reduce_row-good.ensures.front
           (field d p.degree) p.length_in);
     }
 
-pub read-row-spec : {M : Type 1} → statement M
-read-row-spec = tie.close (tie.spec
+pub read_row_spec : {M : Type 1} → statement M
+read_row_spec = tie.close (tie.spec
     (λ c. search rules)
     reduce-row-requires
     (λ c. enough c.before)

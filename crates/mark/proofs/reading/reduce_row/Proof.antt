@@ -8,42 +8,39 @@ use Rattle.mark.proofs.reading.reduce_row.Statement.{statement}
 use Rattle.mark.proofs.reading.reduce_row.Tie as tie
 
 -- where the row is copied, and where it is reduced
-abbrev start : tie.After-store → tie.Start
-start c = c.before.before.before.before.before.before
-
 abbrev copied : tie.After-reduce → tie.After-store
 copied c = c.before.before.before.before
 
 reduce-requires : tie.Need-reduce-requires
-reduce-requires c κs = let st = c.before.before.before in
-    let s = (start st).args in
-    let p = (start st).requires in
+reduce-requires c κs = let st = c in
+    let s = st.args in
+    let p = st.requires in
     let row = p.row in
     let few = p.room in
     let same = row.count in
     let symbols = symbols_over s.degree s.row.now s.s.now st.store.ensures (omega arith) few row.symbols p.symbols in (
       (row.degree, row.table, row.points),
       (
-        (row.length_in, row.most_points, omega (arith, st.store.auto.1.0)),
+        (row.length_in, row.most_points, omega (arith, st.store.auto.s)),
         (symbols, row.inverses),
       ),
     )
 
 returns : tie.Need-returns
-returns c = let r = c.before.before.before.before.before in
-    let s = (start (copied r)).args in
-    let p = (start (copied r)).requires in
+returns c = let r = c in
+    let s = r.args in
+    let p = r.requires in
     let few = p.room in
     let front = held_front s.degree s.k s.points.now s.row.now s.s.now _ p.row.count (omega arith)
-    (copied r).store.ensures r.reduce.ensures in
+    r.store.ensures r.reduce.ensures in
     record {
       front = front;
       zeros = rw (reduced_rest s.degree s.k s.points.now s.row.now _ p.row.count front p.row.count) at
           c.all_zero.ensures;
     }
 
-pub reduce-row-spec : {M : Type 1} → statement M
-reduce-row-spec = tie.close (tie.spec
+pub reduce_row_spec : {M : Type 1} → statement M
+reduce_row_spec = tie.close (tie.spec
     (λ c κs. search rules)
     reduce-requires
     (λ c. search rules) (λ c. search rules) (λ c. search rules) (λ c κs. search rules) (λ c. search rules)

@@ -23,57 +23,57 @@ module _ (c : tie.After-copy) where
   abbrev code : Code
   code = code_of start.args.degree start.args.points.now start.args.lengths.now
 
-  points : take (length start.args.points.now) c.copy.new.1.0 ≡ start.args.points.now
-  points = take_copied start.args.points.now (replicate 96 0) c.copy.ensures.1
+  points : take (length start.args.points.now) c.copy.new.s ≡ start.args.points.now
+  points = take_copied start.args.points.now (replicate 96 0) c.copy.ensures
 
-  enough : length start.args.points.now ≤ length c.copy.new.1.0
-  enough = omega (arith, c.copy.auto.1.0, start.pre.counts.most_columns)
+  enough : length start.args.points.now ≤ length c.copy.new.s
+  enough = omega (arith, c.copy.auto.s, start.requires.counts.most_columns)
 
 -- where the array is read
-module _ (c : tie.After-read-array) where
+module _ (c : tie.After-read_array-good) where
   abbrev here : tie.After-copy
   here = c.before.before.before.before.before
 
   abbrev rows : List ℕ
-  rows = c.read-array.new.1.1.1.1.1.0
+  rows = c.read_array-good.new.s
 
   size : length (take (length (start here).args.message.now) rows) ≡ length (start here).args.message.now
-  size = let p = (start here).pre in
-      length-take-le _ rows (omega (arith, c.read-array.auto.1.1.1.1.1.0, p.message, p.counts.fits, p.counts.cells))
+  size = let p = (start here).requires in
+      length-take-le _ rows (omega (arith, c.read_array-good.auto.s, p.message, p.counts.fits, p.counts.cells))
 
   -- what was said of it, at the caller's points
-  said : ArrayRead (code here) (start here).args.array.now (replicate 384 0) rows c.read-array.result
-  said = rw (points here) at c.read-array.ensures
+  said : ArrayRead (code here) (start here).args.array.now (replicate 384 0) rows c.read_array-good.result
+  said = rw (points here) at c.read_array-good.ensures
 
-read-array-requires : tie.Need-read-array-requires
+read-array-requires : tie.Need-read_array-good-requires
 read-array-requires c κs = let h = c.before.before.before.before in
     let p = (start h).requires in
-    rw (points h) (record { made = made p.counts p.proper h.before.before.lend.ensures; array = p.array })
+    rw (points h) (record { made = made p.counts p.proper h.lend-table.ensures; array = p.array })
 
-returns : tie.Need-returns
+returns : tie.Need-returns-then-good
 returns c = let then = c.before.before.before.before.before in
     let r = then.before.before in
     let s = start (here r) in
-    let (m, message, codes, laid) = (said r).found then.if1.true in
-    let is : c.before.before.copy2.new.1.0 ≡ m = copied_lay m (replicate 384 0) s.args.message.now laid
-    (message.count ∙ sym s.pre.message)
-    (omega (arith, message.count, s.pre.counts.fits, s.pre.counts.cells))
-    c.before.before.copy2.ensures.1 in
-    record { found = λ e. (rw is message, rw is codes); none = λ e. absurd (true≢false (sym then.if1.true ∙ e)) }
+    let (m, message, codes, laid) = (said r).found then.if-good.true in
+    let is : c.copy-then-good.new.s ≡ m = copied_lay m (replicate 384 0) s.args.message.now laid
+    (message.count ∙ sym s.requires.message)
+    (omega (arith, message.count, s.requires.counts.fits, s.requires.counts.cells))
+    c.copy-then-good.ensures in
+    record { found = λ e. (rw is message, rw is codes); none = λ e. absurd (true≢false (sym then.if-good.true ∙ e)) }
 
-pub write-message-spec : {M : Type 1} → statement M
-write-message-spec = tie.close (tie.spec
-    (λ c κs. c.before.before.before.before.requires.counts.degree)
+pub write_message_spec : {M : Type 1} → statement M
+write_message_spec = tie.close (tie.spec
+    (λ c κs. c.requires.counts.degree)
     (λ c. search rules)
-    (λ c κs. c.before.before.before.before.before.before.requires.counts.most_columns)
+    (λ c κs. c.requires.counts.most_columns)
     (λ c. enough c.before.before)
     (λ c. sym (length-take-le _ _ (enough c.before.before.before)))
     (λ c. search rules)
     read-array-requires
-    (λ c. let p = (start (here c.before.before)).pre in
-    omega (arith, c.before.before.read-array.auto.1.1.1.1.1.0, p.message, p.counts.fits, p.counts.cells))
+    (λ c. let p = (start (here c.before.before)).requires in
+    omega (arith, c.read_array-good.auto.s, p.message, p.counts.fits, p.counts.cells))
     (λ c. sym (size c.before.before.before))
     (λ c κs. omega (arith, size c.before.before.before.before))
     (λ c. search rules)
     returns
-    (λ c. record { found = λ e. absurd (true≢false (sym e ∙ c.if1.false)); none = λ e. ((said c.before.before).none e, refl) }))
+    (λ c. record { found = λ e. absurd (true≢false (sym e ∙ c.if-good.false)); none = λ e. ((said c.before.before).none e, refl) }))

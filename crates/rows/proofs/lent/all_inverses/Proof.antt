@@ -13,16 +13,16 @@ use borrow.Author.Rules.{rules}
 use Rattle.rows.proofs.lent.all_inverses.Statement.{statement}
 use Rattle.rows.proofs.lent.all_inverses.Tie as tie
 
-abbrev invariant-loop : tie.invariant-loop
+abbrev invariant-loop : tie.invariant-loop-j
 invariant-loop table degree points k ws₀ j₀ ws j = (j ≤ k) × (length ws ≡ length ws₀) × Inverses degree points j ws
 
-abbrev decreases-loop : tie.decreases-loop
+abbrev decreases-loop : tie.decreases-loop-j
 decreases-loop table degree points k ws₀ j₀ ws j = k - j
 
-abbrev start : tie.In-loop invariant-loop decreases-loop → tie.Start invariant-loop decreases-loop
+abbrev start : tie.In-loop-j invariant-loop decreases-loop → tie.Start invariant-loop decreases-loop
 start c = c.before.before.before.before
 
-abbrev inverted : tie.After-slice-known2 invariant-loop decreases-loop → tie.After-inverses invariant-loop decreases-loop
+abbrev inverted : tie.After-slice_known-in-loop-j-1 invariant-loop decreases-loop → tie.After-inverses invariant-loop decreases-loop
 inverted c = c.before.before
 
 -- what is given
@@ -31,42 +31,42 @@ module _ (s : tie.Start invariant-loop decreases-loop) where
   lent = let ((degree, table, points), rest) = s.requires in record { degree = degree; table = table }
 
   points : Points s.args.degree s.args.points.now
-  points = let ((degree, table, points), rest) = s.pre in points
+  points = let ((degree, table, points), rest) = s.requires in points
 
   counts : let n = length s.args.points.now in (s.args.k ≤ n) × (n ≤ 96) × (96 * s.args.k ≤ length s.args.ws.now)
-  counts = let (lent, (counts, symbols)) = s.pre in counts
+  counts = let (lent, (counts, symbols)) = s.requires in counts
 
   symbols : All (IsSymbol s.args.degree) s.args.ws.now
-  symbols = let (lent, (counts, symbols)) = s.pre in symbols
+  symbols = let (lent, (counts, symbols)) = s.requires in symbols
 
 inverses-requires : tie.Need-inverses-requires invariant-loop decreases-loop
 inverses-requires c κs = let here = c.before in
     let s = start here in record {
       lent = lent s;
       points = points s;
-      place = omega (arith, counts s, here.loop-test.true);
-      room = omega (arith, counts s, here.loop-test.true, here.before.loop.invariant.1);
+      place = omega (arith, counts s, here.loop-j-test.true);
+      room = omega (arith, counts s, here.loop-j-test.true, here.loop-j.invariant.1);
     }
 
-loop-again : tie.Need-loop-preserved invariant-loop decreases-loop
+loop-again : tie.Need-loop-j-preserved invariant-loop decreases-loop
 loop-again c =
     let here = (inverted c).before.before in
     let s = start here in
-    let turn = here.before.loop in
-    let more = here.loop-test.taken in (
+    let turn = here.loop-j in
+    let more = here.loop-j-test.true in (
       omega (arith, more),
-      (inverted c).inverses.auto.1.1.1.1.0 ∙ turn.inv.1,
-      more_rounds _ _ (lent s).degree _ _ (counts s).1 (omega (arith, counts s, more, turn.inv.1)) turn.inv.2
-          (inverted c).inverses.ensures,
+      c.inverses.auto.w ∙ turn.invariant.1,
+      more_rounds _ _ (lent s).degree _ _ (counts s).1 (omega (arith, counts s, more, turn.invariant.1)) turn.invariant.2
+          c.inverses.ensures,
     )
 
 returns : tie.Need-returns invariant-loop decreases-loop
 returns c = let turn = c.before in
-    let whole : turn.loop.j ≡ turn.before.before.before.args.k = omega (arith, c.loop-test.false) in
-    rw (← whole) turn.loop.invariant.2
+    let whole : turn.loop-j.j ≡ turn.args.k = omega (arith, c.loop-j-test.false) in
+    rw (← whole) turn.loop-j.invariant.2
 
-pub all-inverses-spec : {M : Type 1} → statement M
-all-inverses-spec = tie.close (tie.spec invariant-loop decreases-loop
+pub all_inverses_spec : {M : Type 1} → statement M
+all_inverses_spec = tie.close (tie.spec invariant-loop decreases-loop
     (λ c. (search rules, search rules, no_rounds _ _ _ (symbols c.before.before)))
     (λ c. search rules)
     inverses-requires

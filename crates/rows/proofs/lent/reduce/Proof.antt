@@ -8,16 +8,16 @@ use borrow.Author.Rules.{rules}
 use Rattle.rows.proofs.lent.reduce.Statement.{statement}
 use Rattle.rows.proofs.lent.reduce.Tie as tie
 
-abbrev invariant-loop : tie.invariant-loop
+abbrev invariant-loop : tie.invariant-loop-j
 invariant-loop table degree points k ws s₀ j₀ s j = (j ≤ k) × Shared degree points s₀ j s
 
-abbrev decreases-loop : tie.decreases-loop
+abbrev decreases-loop : tie.decreases-loop-j
 decreases-loop table degree points k ws s₀ j₀ s j = k - j
 
-abbrev start : tie.In-loop invariant-loop decreases-loop → tie.Start invariant-loop decreases-loop
+abbrev start : tie.In-loop-j invariant-loop decreases-loop → tie.Start invariant-loop decreases-loop
 start c = c.before.before.before.before.before
 
-abbrev reading : tie.After-multiply-arg2 invariant-loop decreases-loop → tie.In-loop invariant-loop decreases-loop
+abbrev reading : tie.After-multiply-arg-in-loop-j-1 invariant-loop decreases-loop → tie.In-loop-j invariant-loop decreases-loop
 reading c = c.before.before.before
 
 given : (c : tie.Start invariant-loop decreases-loop)
@@ -36,23 +36,23 @@ multiply-requires : tie.Need-multiply-requires invariant-loop decreases-loop
 multiply-requires c κs =
     let here = reading c in
     let g = given (start here) in
-    let m = next_shared g here.before.loop.inv.1 here.loop-test.taken in
+    let m = next_shared g here.loop-j.invariant.1 here.loop-j-test.true in
     ((m.degree, g.lent.table, m.left, m.right), (m.room, (m.factors, m.symbols)))
 
-loop-again : tie.Need-loop-preserved invariant-loop decreases-loop
+loop-again : tie.Need-loop-j-preserved invariant-loop decreases-loop
 loop-again c =
     let here = reading c.before.before.before in (
-      omega (arith, here.loop-test.taken),
-      one_shared (given (start here)) here.before.loop.inv.1 here.loop-test.taken c.before.before.multiply.ensures,
+      omega (arith, here.loop-j-test.true),
+      one_shared (given (start here)) here.loop-j.invariant.1 here.loop-j-test.true c.multiply.ensures,
     )
 
 returns : tie.Need-returns invariant-loop decreases-loop
 returns c = let turn = c.before in
-    let whole : turn.loop.j ≡ turn.before.before.before.before.args.k = omega (arith, c.loop-test.false) in
-    rw (← whole) turn.loop.invariant.1.row
+    let whole : turn.loop-j.j ≡ turn.args.k = omega (arith, c.loop-j-test.false) in
+    rw (← whole) turn.loop-j.invariant.1.row
 
-pub reduce-spec : {M : Type 1} → statement M
-reduce-spec =
+pub reduce_spec : {M : Type 1} → statement M
+reduce_spec =
     tie.close (tie.spec invariant-loop decreases-loop
     (λ c. (omega arith, none_shared _ _ _ (given c.before.before.before).symbols))
     (λ c. search rules) (λ c. search rules) (λ c. search rules) (λ c. search rules) (λ c. search rules) (λ c. search rules)

@@ -9,10 +9,10 @@ returns : tie.Need-returns
 returns c =
     let written = c.before.before in
     let stored = written.before.before.before.before in
-    let zero_line = stored.before.before.before.before in
-    let pre = zero_line.before.before.before.before.requires in
+    let zero_line = stored in
+    let pre = zero_line.requires in
     first_only _ _ pre.0 pre.1 zero_line.clear.ensures stored.store.ensures written.ones.ensures
 
-pub first-line-spec : {M : Type 1} → statement M
-first-line-spec =
+pub first_line_spec : {M : Type 1} → statement M
+first_line_spec =
     tie.close (tie.spec (λ c κs. search rules) (λ c κs. search rules) (λ c κs. search rules) (λ c. search rules) returns)

@@ -8,12 +8,12 @@ use Rattle.solver.proofs.first.row_line.Tie as tie
 returns : tie.Need-returns
 returns c =
     let written = c.before.before in
-    let zero_line = written.before.before.before.before in
-    let pre = zero_line.before.before.before.requires in
+    let zero_line = written in
+    let pre = zero_line.requires in
     row_only _ _ pre.1 _ _ pre.0 zero_line.clear.ensures written.ones.ensures
 
-pub row-line-spec : {M : Type 1} → statement M
-row-line-spec =
+pub row_line_spec : {M : Type 1} → statement M
+row_line_spec =
     tie.close
     (tie.spec
     (λ c. search rules)

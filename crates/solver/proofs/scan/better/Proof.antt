@@ -8,41 +8,41 @@ use borrow.Author.Rules.{rules}
 use Rattle.solver.proofs.scan.better.Statement.{statement}
 use Rattle.solver.proofs.scan.better.Tie as tie
 
-returns : tie.Need-returns
-returns c = (search rules, sym (passed _ _ _ _ _ c.if1.true))
+returns : tie.Need-returns-then-marks-j-eq0
+returns c = (search rules, sym (passed _ _ _ _ _ c.if-marks-j-eq0.true))
 
-returns-2 : tie.Need-returns-2
+returns-2 : tie.Need-returns-then-best-lines
 returns-2 c =
-    let start = c.before.before.before in
-    let none_yet : start.args.lines ≤ start.args.best = omega (arith, c.if2.true) in
-    (search rules, found_some _ _ start.requires.3 ∙ rw (found_none _ _ none_yet) (sym (first _ _ _ _ c.before.if1.false)))
+    let start = c in
+    let none_yet : start.args.lines ≤ start.args.best = omega (arith, c.if-best-lines.true) in
+    (search rules, found_some _ _ start.requires.3 ∙ rw (found_none _ _ none_yet) (sym (first _ _ _ _ c.if-marks-j-eq0.false)))
 
 -- line j has no mark, and a line was found before
-module _ (c : tie.After-shared-slice-known3) where
-  abbrev unmarked : tie.Else1
+module _ (c : tie.After-shared_slice_known-3-1) where
+  abbrev unmarked : tie.Else-marks-j-eq0
   unmarked = c.before.before.before
 
   abbrev start : tie.Start
   start = unmarked.before.before
 
   some_yet : start.args.best < start.args.lines
-  some_yet = omega (arith, c.before.before.if2.false)
+  some_yet = omega (arith, c.if-best-lines.false)
 
-returns-3 : tie.Need-returns-3
+returns-3 : tie.Need-returns-then-leads-j
 returns-3 c =
     let here = c.before in (
       search rules,
       found_some _ _ (start here).requires.3
-          ∙ rw (found_some _ _ (some_yet here)) (sym (lower _ _ _ _ _ (unmarked here).if1.false c.if3.true)),
+          ∙ rw (found_some _ _ (some_yet here)) (sym (lower _ _ _ _ _ (unmarked here).if-marks-j-eq0.false c.if-leads-j.true)),
     )
 
-returns-4 : tie.Need-returns-4
+returns-4 : tie.Need-returns
 returns-4 c =
     let here = c.before in
-    (search rules, rw (found_some _ _ (some_yet here)) (sym (kept _ _ _ _ _ (unmarked here).if1.false c.if3.false)))
+    (search rules, rw (found_some _ _ (some_yet here)) (sym (kept _ _ _ _ _ (unmarked here).if-marks-j-eq0.false c.if-leads-j.false)))
 
-pub better-spec : {M : Type 1} → statement M
-better-spec =
+pub better_spec : {M : Type 1} → statement M
+better_spec =
     tie.close
     (tie.spec
     (λ c. search rules)

@@ -10,8 +10,9 @@ returns : tie.Need-returns
 returns c = (
   c.pivot.ensures.0,
   λ es size led. least_scan _ _ _ _ c.pivot.ensures.1 es size led
-      (λ j lt. all_marked j (omega (arith, c.before.before.before.requires))),
+      (λ j lt. all_marked j (omega (arith, c.requires))),
 )
 
-pub least-spec : {M : Type 1} → statement M
-least-spec = tie.close (tie.spec (λ c. search rules) (λ c κs. search rules) returns)
+pub least_spec : {M : Type 1} → statement M
+least_spec = tie.close (tie.spec  (λ c κs. search rules)
+    returns)

@@ -9,13 +9,13 @@ returns : tie.Need-returns
 returns c =
     let cleared = c.before.before in
     let stored = cleared.before.before.before.before in
-    let start = stored.before.before.before.before.before in
+    let start = stored in
     let a = start.args in
     copied a.p a.at a.n a.space.now a.w.now start.requires.0 start.requires.1 start.requires.2
     stored.store.ensures cleared.clear.ensures
 
-pub copy-line-spec : {M : Type 1} → statement M
-copy-line-spec =
+pub copy_line_spec : {M : Type 1} → statement M
+copy_line_spec =
     tie.close
     (tie.spec
     (λ c. search rules)

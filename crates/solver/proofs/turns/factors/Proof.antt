@@ -6,15 +6,9 @@ use borrow.Author.Rules.{rules}
 use Rattle.solver.proofs.turns.factors.Statement.{statement}
 use Rattle.solver.proofs.turns.factors.Tie as tie
 
-abbrev start : tie.After-cs → tie.Start
-start c = c.before.before
-
-abbrev stored : tie.After-quotient-from → tie.After-cs
-stored c = c.before.before.before.before
-
-quotient-from-requires : tie.Need-quotient-from-requires
+quotient-from-requires : tie.Need-quotient_from-inverse-requires
 quotient-from-requires c κs =
-    let p = (start c.before.before.before).requires in
+    let p = c.requires in
     record {
       lent = record { degree = p.0.0; table = p.0.1 };
       left = (field _ p.0.0).one_in;
@@ -24,18 +18,18 @@ quotient-from-requires c κs =
 
 scale-requires : tie.Need-scale-requires
 scale-requires c κs =
-    let divided = c.before in
-    let p = (start (stored divided)).requires in
-    ((p.0.0, p.0.1, rw divided.quotient-from.ensures ((field _ p.0.0).over_in _ _)), search rules)
+    let divided = c in
+    let p = divided.requires in
+    ((p.0.0, p.0.1, rw divided.quotient_from-inverse.ensures ((field _ p.0.0).over_in _ _)), search rules)
 
 returns : tie.Need-returns
 returns c =
-    let divided = c.before.before.before in
-    factors_are _ _ _ _ (search rules) divided.before.before.before.store.ensures divided.quotient-from.ensures
-    c.before.scale.ensures
+    let divided = c in
+    factors_are _ _ _ _ (search rules) divided.store.ensures divided.quotient_from-inverse.ensures
+    c.scale.ensures
 
-pub factors-spec : {M : Type 1} → statement M
-factors-spec =
+pub factors_spec : {M : Type 1} → statement M
+factors_spec =
     tie.close
     (tie.spec
     (λ c. search rules)

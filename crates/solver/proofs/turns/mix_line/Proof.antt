@@ -10,34 +10,34 @@ use borrow.Author.Rules.{rules}
 use Rattle.solver.proofs.turns.mix_line.Statement.{statement}
 use Rattle.solver.proofs.turns.mix_line.Tie as tie
 
-returns : tie.Need-returns
-returns c = only_none _ _ _ (mixed_pivot _ _ _ _ _ _ _ c.if1.true)
+returns : tie.Need-returns-then-j-p
+returns c = only_none _ _ _ (mixed_pivot _ _ _ _ _ _ _ c.if-j-p.true)
 
-returns-2 : tie.Need-returns-2
-returns-2 c = only_none _ _ _ (mixed-zero _ _ _ _ _ _ _ c.if2.true)
+returns-2 : tie.Need-returns-then-ds-j-eq0
+returns-2 c = only_none _ _ _ (mixed-zero _ _ _ _ _ _ _ c.if-ds-j-eq0.true)
 
-abbrev start : tie.Else2 → tie.Start
-start c = c.before.before.before.before.before
+abbrev start : tie.Else-ds-j-eq0 → tie.Start
+start c = c.before.before.before.before.before.before
 
-add-times-requires : tie.Need-add-times-requires
+add-times-requires : tie.Need-add_times-requires
 add-times-requires c κs =
-    let s = start c.before.before in
-    let (field_of, lent, factors) = s.pre.0 in
-    ((field_of, lent, rw (factors s.args.j s.pre.1.0.1) ((field _ field_of).times_in _ _)), omega (arith, s.pre.1.1))
+    let s = start c.before.before.before in
+    let (field_of, lent, factors) = s.requires.0 in
+    ((field_of, lent, rw (factors s.args.j s.requires.1.0.1) ((field _ field_of).times_in _ _)), omega (arith, s.requires.1.1))
 
-returns-3 : tie.Need-returns-3
+returns-3 : tie.Need-returns
 returns-3 c =
     let added = c.before.before in
     let value = added.before.before.before in
-    let other = value.before.before in
-    let s = start value in
-    let (degree, lent, factors) = s.pre.0 in
-    let ((few, line, left, right, nonzero), (within, fits)) = s.pre.1 in
-    mixed_only _ _ _ _ _ _ _ other.if1.false value.if2.false within fits
+    let other = value in
+    let s = start value.before in
+    let (degree, lent, factors) = s.requires.0 in
+    let ((few, line, left, right, nonzero), (within, fits)) = s.requires.1 in
+    mixed_only _ _ _ _ _ _ _ other.if-j-p.false value.if-ds-j-eq0.false within fits
     (factors s.args.j line ∙ factor_over _ degree left right nonzero) added.add_times.ensures
 
-pub mix-line-spec : {M : Type 1} → statement M
-mix-line-spec =
+pub mix_line_spec : {M : Type 1} → statement M
+mix_line_spec =
     tie.close
     (tie.spec
     returns
