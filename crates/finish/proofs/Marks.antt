@@ -75,6 +75,8 @@ module _ {K : Type 0} where
   right-most (suc m ∷ ms) (a ∷ l) = omega (arith, right-most ms l)
 
   mem_take : (n : ℕ) (l : List K) (a : K) → Mem a (take n l) → Mem a l
+  mem_take zero l a x' = elim x' [ ]
+  mem_take (suc n) [] a x3 = elim x3 [ ]
   mem_take (suc n) (b ∷ l) a (inl e) = inl e
   mem_take (suc n) (b ∷ l) a (inr h) = inr (mem_take n l a h)
 

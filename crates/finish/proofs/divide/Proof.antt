@@ -28,19 +28,19 @@ module _ (s : tie.Start) where
   y = s.args.received.now
 
   ready : Ready code y
-  ready = s.pre.0
+  ready = s.requires.0
 
   few : columns code ≤ 96
   few = ready.counts.most_columns
 
   small : length E ≤ 96
-  small = omega (arith, few, joint_less ready.proper ready.counts, s.pre.1.1.0.2)
+  small = omega (arith, few, joint_less ready.proper ready.counts, s.requires.1.1.0.2)
 
   array_long : length s.args.array.now ≡ 384
-  array_long = s.pre.1.1.1.0
+  array_long = s.requires.1.1.1.0
 
   flags_long : length s.args.flags.now ≡ 96
-  flags_long = s.pre.1.1.1.1
+  flags_long = s.requires.1.1.1.1
 
 -- where the locator's values are stored
 module _ (c : tie.After-values) where
@@ -48,13 +48,13 @@ module _ (c : tie.After-values) where
   valued-from = c.before.before.before.before.before.before.before.before
 
   abbrev marks : List ℕ
-  marks = c.values.new.1.1.1.1.0
+  marks = c.values.new.s
 
   front : length (take (columns (code valued-from)) marks) ≡ columns (code valued-from)
   front = length-take-le (columns (code valued-from)) marks (omega (arith, few valued-from, c.values.auto))
 
 -- where the flags are set
-module _ (c : tie.After-flag-zeros) where
+module _ (c : tie.After-flag_zeros-count) where
   abbrev valued : tie.After-values
   valued = c.before.before.before.before
 
@@ -62,25 +62,25 @@ module _ (c : tie.After-flag-zeros) where
   start = valued-from valued
 
   abbrev flags : List ℕ
-  flags = c.flag-zeros.new.1.0
+  flags = c.flag_zeros-count.new.flags
 
   flags_front : length (take (columns (code start)) flags) ≡ columns (code start)
-  flags_front = length-take-le _ flags (omega (arith, few start, flags_long start, c.flag-zeros.auto))
+  flags_front = length-take-le _ flags (omega (arith, few start, flags_long start, c.flag_zeros-count.auto))
 
   known : Flagged (code start) (E start) (marks valued) flags
   known =
       flagged (ready start).proper (E start) (replicate 96 0) start.args.flags.now valued.values.ensures
-      c.flag-zeros.ensures.1 (few start) (omega (arith, few start, flags_long start))
+      c.flag_zeros-count.ensures.1 (few start) (omega (arith, few start, flags_long start))
 
-  counted : c.flag-zeros.result ≡ root_count (code start) (E start)
-  counted = c.flag-zeros.ensures.0 ∙ ap total known.roots
+  counted : c.flag_zeros-count.result ≡ root_count (code start) (E start)
+  counted = c.flag_zeros-count.ensures.0 ∙ ap total known.roots
 
 -- where they are as many as the size
-abbrev full : tie.Else1 → tie.After-flag-zeros
+abbrev full : tie.Else-count-t → tie.After-flag_zeros-count
 full c = c.before.before.before
 
-abbrev filling : tie.After-fill → tie.Else1
-filling c = c.before.before.before.before
+abbrev filling : tie.After-fill → tie.Else-count-t
+filling c = c.before.before.before
 
 values-requires : tie.Need-values-requires
 values-requires c κs =
@@ -90,34 +90,34 @@ values-requires c κs =
       (((ready s).proper.symbols, locator.0), (locator.1, omega (arith, small s), omega (arith, few s))),
     )
 
-returns : tie.Need-returns
+returns : tie.Need-returns-then-count-t
 returns c = λ lent t e.
     let f = c.before.before.before in
     let h = counted f in
-    divided_hollow (code (start f)) (y (start f)) lent t (E (start f)) (λ q. c.if1.true (omega arith)) _
+    divided_hollow (code (start f)) (y (start f)) lent t (E (start f)) (λ q. c.if-count-t.true (omega arith)) _
     ∙ ap (λ (k : ℕ). (Hollow k, lent)) (omega arith)
 
 fill-requires : tie.Need-fill-requires
 fill-requires c κs =
-    let else = c.before.before.before in
+    let else = c.before.before in
     let f = full else in
     let s = start f in
     let h = counted f in
-    let room = roots_room (known f) (ready s).proper (omega (arith, else.if1.false, s.pre.1.1.0)) in
-    (ready s, ((s.pre.1.0, array_long s), ((known f).flags, (known f).count, room)))
+    let room = roots_room (known f) (ready s).proper (omega (arith, else.if-count-t.false, s.requires.1.1.0)) in
+    (ready s, ((s.requires.1.0, array_long s), ((known f).flags, (known f).count, room)))
 
-returns-2 : tie.Need-returns-2
+returns-2 : tie.Need-returns
 returns-2 c = λ lent t e.
     let else = filling c.before.before in
     let f = full else in
     let s = start f in
     let h = counted f in
-    divided-corrected (code s) (y s) lent t (E s) (omega (arith, else.if1.left)) _
+    divided-corrected (code s) (y s) lent t (E s) (omega (arith, else.if-count-t.false)) _
     ∙ ap₂ (λ (k : ℕ) (b : Buffers). (Corrected k, b)) (omega arith)
-    (fronts_are (known f) (ready s).counts (ready s).received s.args.array.now c.before.before.fill.ensures (array_long s))
+    (fronts_are (known f) (ready s).counts (ready s).received s.args.array.now c.fill.ensures (array_long s))
 
-pub divide-spec : {M : Type 1} → statement M
-divide-spec =
+pub divide_spec : {M : Type 1} → statement M
+divide_spec =
     tie.close
     (tie.spec
     (λ c. search rules)
@@ -130,9 +130,9 @@ divide-spec =
     (λ c. search rules)
     returns
     (λ c. search rules)
-    (λ c. sym (flags_front (full c.before)))
+    (λ c. sym (flags_front (full c)))
     (λ c. search rules)
-    (λ c. sym (front (valued (full c.before.before))))
+    (λ c. sym (front (valued (full c.before))))
     fill-requires
     (λ c. omega (arith, small (start (full (filling c.before.before)))))
     (λ c. search rules)

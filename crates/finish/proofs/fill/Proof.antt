@@ -27,10 +27,10 @@ module _ (s : tie.Start) where
   ms = s.args.marks.now
 
   few : length xs ≤ 96
-  few = s.pre.0.counts.most_columns
+  few = s.requires.0.counts.most_columns
 
   marked : Marked (code_of s.args.degree xs s.args.lengths.now) fs ms
-  marked = let m = s.pre.1.1 in record { flags = m.0; count = m.1; room = m.2 }
+  marked = let m = s.requires.1.1 in record { flags = m.0; count = m.1; room = m.2 }
 
   flags : length fs ≡ length xs
   flags = flags_count marked
@@ -42,52 +42,52 @@ module _ (s : tie.Start) where
   wrong_few = omega (arith, right-most ms xs, marked.count, few)
 
 -- the points of the right columns
-module _ (c : tie.After-gather) where
+module _ (c : tie.After-gather-g) where
   abbrev gathered-from : tie.Start
   gathered-from = c.before.before.before.before.before.before.before.before
 
   abbrev good : List ℕ
-  good = c.gather.new.1.1.0
+  good = c.gather-g.new.s
 
-  good_room : c.gather.result ≤ length good
-  good_room = omega (arith, right_few gathered-from, c.gather.ensures.0, c.gather.auto)
+  good_room : c.gather-g.result ≤ length good
+  good_room = omega (arith, right_few gathered-from, c.gather-g.ensures.0, c.gather-g.auto)
 
-  good_are : take c.gather.result good ≡ right (fs gathered-from) (xs gathered-from)
+  good_are : take c.gather-g.result good ≡ right (fs gathered-from) (xs gathered-from)
   good_are =
-      take-lay (right (fs gathered-from) (xs gathered-from)) (replicate 96 0) c.gather.ensures.1 (sym c.gather.ensures.0)
-      (omega (arith, right_few gathered-from, c.gather.ensures.0))
+      take-lay (right (fs gathered-from) (xs gathered-from)) (replicate 96 0) c.gather-g.ensures.1 (sym c.gather-g.ensures.0)
+      (omega (arith, right_few gathered-from, c.gather-g.ensures.0))
 
 -- and of the wrong ones
-module _ (c : tie.After-gather2) where
-  abbrev gathered : tie.After-gather
+module _ (c : tie.After-gather-w) where
+  abbrev gathered : tie.After-gather-g
   gathered = c.before.before.before
 
   abbrev start : tie.Start
   start = gathered-from gathered
 
   abbrev wrong : List ℕ
-  wrong = c.gather2.new.1.1.0
+  wrong = c.gather-w.new.s
 
-  wrong_room : c.gather2.result ≤ length wrong
-  wrong_room = omega (arith, wrong_few start, c.gather2.ensures.0, c.gather2.auto)
+  wrong_room : c.gather-w.result ≤ length wrong
+  wrong_room = omega (arith, wrong_few start, c.gather-w.ensures.0, c.gather-w.auto)
 
-  wrong_are : take c.gather2.result wrong ≡ right (ms start) (xs start)
+  wrong_are : take c.gather-w.result wrong ≡ right (ms start) (xs start)
   wrong_are =
-      take-lay (right (ms start) (xs start)) (replicate 96 0) c.gather2.ensures.1 (sym c.gather2.ensures.0)
-      (omega (arith, wrong_few start, c.gather2.ensures.0))
+      take-lay (right (ms start) (xs start)) (replicate 96 0) c.gather-w.ensures.1 (sym c.gather-w.ensures.0)
+      (omega (arith, wrong_few start, c.gather-w.ensures.0))
 
-gather-requires : tie.Need-gather-requires
+gather-requires : tie.Need-gather-g-requires
 gather-requires c κs =
     let s = c.before.before.before.before.before.before.before in (sym (flags s), omega (arith, flags s, few s))
 
-fill-wrong-requires : tie.Need-fill-wrong-requires
+fill-wrong-requires : tie.Need-fill_wrong-requires
 fill-wrong-requires c κs =
     let g = c.before.before.before.before in
     let s = start g in
     record {
-      ready = s.pre.0;
-      table = s.pre.1.0.0;
-      long = s.pre.1.0.1;
+      ready = s.requires.0;
+      table = s.requires.1.0.0;
+      long = s.requires.1.0.1;
       marked = marked s;
       good = good_are (gathered g);
       wrong = wrong_are g;

@@ -45,31 +45,31 @@ module _ (s : tie.Start) where
   ys = s.args.row.now
 
   degree_field : Field (gf d)
-  degree_field = field d s.pre.0.0
+  degree_field = field d s.requires.0.0
 
   symbols : All (IsSymbol d) (right fs ys)
-  symbols = all_right (IsSymbol d) fs ys s.pre.1.0.3
+  symbols = all_right (IsSymbol d) fs ys s.requires.1.0.3
 
   most : length (right fs ys) ≤ 96
-  most = omega (arith, right-most fs ys, s.pre.1.0.2)
+  most = omega (arith, right-most fs ys, s.requires.1.0.2)
 
   fits : length (right fs ys) ≤ 112
   fits = omega (arith, most)
 
   some : 1 ≤ length gs
-  some = s.pre.1.1.0.0
+  some = s.requires.1.1.0.0
 
   rounds : length gs ≡ suc (length gs - 1)
   rounds = omega (arith, some)
 
   enough : length gs ≤ length (right fs ys)
-  enough = s.pre.1.1.0.1
+  enough = s.requires.1.1.0.1
 
   few : length gs ≤ 96
   few = omega (arith, enough, most)
 
   few_wrong : length ws ≤ 96
-  few_wrong = s.pre.1.1.0.2
+  few_wrong = s.requires.1.1.0.2
 
 abbrev gathered-from : tie.After-gather → tie.Start
 gathered-from c = c.before.before.before.before.before.before.before.before.before
@@ -83,10 +83,10 @@ module _ (c : tie.After-reduce) where
   start = gathered-from gathered
 
   abbrev us : List ℕ
-  us = c.reduce.new.1.1.1.1.1.0
+  us = c.reduce.new.s
 
   long : length us ≡ 112
-  long = omega (arith, c.reduce.auto, gathered.gather.kept)
+  long = omega (arith, c.reduce.auto, gathered.gather.auto)
 
   size : length (take (length (gs start)) us) ≡ length (gs start)
   size = length-take-le (length (gs start)) us (omega (arith, few start, long))
@@ -105,7 +105,7 @@ module _ (c : tie.After-evaluate) where
   from = start reduced
 
   abbrev vs : List ℕ
-  vs = c.evaluate.new.1.1.1.1.1.0
+  vs = c.evaluate.new.s
 
   values : length (take (length (ws from)) vs) ≡ length (ws from)
   values = length-take-le _ vs (omega (arith, few_wrong from, c.evaluate.auto))
@@ -120,12 +120,12 @@ reduce-requires : tie.Need-reduce-requires
 reduce-requires c κs =
     let g = c.before.before in
     let s = gathered-from g in (
-      (s.pre.0.0, s.pre.0.1, s.pre.0.2),
+      (s.requires.0.0, s.requires.0.1, s.requires.0.2),
       (
         (omega arith, few s, omega (arith, few s, g.gather.auto)),
         (
           symbols_held (d s) (right (fs s) (ys s)) 112 g.gather.ensures.1 (fits s) (omega (arith, few s)) (symbols s),
-          fewer_rounds _ _ s.pre.1.1.1.2 (omega arith),
+          fewer_rounds _ _ s.requires.1.1.1.2 (omega arith),
         ),
       ),
     )
@@ -137,9 +137,9 @@ evaluate-requires c κs =
     let k : ℕ = length (gs s) in
     let kept = all_take (IsSymbol (d s)) k (right (fs s) (ys s)) (symbols s) in
     let count = size r in (
-      (s.pre.0.0, s.pre.0.1),
+      (s.requires.0.0, s.requires.0.1),
       (
-        (s.pre.0.3, s.pre.0.2.symbols, rw (is r) (symbols_reduce (gf (d s)) (degree_field s) k (gs s) _ kept)),
+        (s.requires.0.3, s.requires.0.2.symbols, rw (is r) (symbols_reduce (gf (d s)) (degree_field s) k (gs s) _ kept)),
         (omega (arith, some s), omega arith, omega (arith, few_wrong s)),
       ),
     )
@@ -155,10 +155,10 @@ returns : tie.Need-returns
 returns c =
     let e = c.before.before.before.before.before.before in
     let a = (from e).args in
-    c.before.before.merge.ensures ∙ ap (λ (v : List ℕ). lay a.at v a.s.now) (merged e)
+    c.merge.ensures ∙ ap (λ (v : List ℕ). lay a.at v a.s.now) (merged e)
 
-pub fill-row-spec : {M : Type 1} → statement M
-fill-row-spec =
+pub fill_row_spec : {M : Type 1} → statement M
+fill_row_spec =
     tie.close
     (tie.spec
     (λ c. search rules)

@@ -16,40 +16,40 @@ use Rattle.finish.proofs.fill_wrong.Tie as tie
 few : (s : tie.Start) → largest s.args.lengths.now ≤ 96
 few s = omega (arith, largest-most _ s.args.lengths.now s.requires.ready.proper.lengths, s.requires.ready.counts.most_columns)
 
-module _ (c : tie.After-largest) where
+module _ (c : tie.After-largest-k) where
   abbrev start : tie.Start
   start = c.before.before.before.before.before.before.before.before.before
 
   abbrev k : ℕ
-  k = c.largest.result
+  k = c.largest-k.result
 
   size : length (take k start.args.good.now) ≡ k
   size =
       length-take-le k start.args.good.now
-      (omega (arith, longest_right start.pre.marked start.pre.good, c.largest.ensures))
+      (omega (arith, longest_right start.requires.marked start.requires.good, c.largest-k.ensures))
 
-all-inverses-requires : tie.Need-all-inverses-requires
+all-inverses-requires : tie.Need-all_inverses-requires
 all-inverses-requires c κs =
-    let m = c.before.before in
+    let m = c.before in
     let s = start m in
-    let e = m.largest.ensures in
+    let e = m.largest-k.ensures in
     let count = size m in (
-      (s.pre.ready.counts.degree, s.pre.table, right_points s.pre.marked s.pre.good s.pre.ready.proper (k m)),
+      (s.requires.ready.counts.degree, s.requires.table, right_points s.requires.marked s.requires.good s.requires.ready.proper (k m)),
       ((omega arith, omega (arith, few s, e), omega (arith, few s, e)), symbols_zeros s.args.degree 9216),
     )
 
-fill-rows-requires : tie.Need-fill-rows-requires
+fill-rows-requires : tie.Need-fill_rows-requires
 fill-rows-requires c κs =
     let inverted = c.before.before.before in
-    let m = inverted.before.before.before in
-    ((start m).requires, rw m.largest.ensures at inverted.all-inverses.ensures)
+    let m = inverted.before.before in
+    ((start m).requires, rw m.largest-k.ensures at inverted.all_inverses.ensures)
 
-pub fill-wrong-spec : {M : Type 1} → statement M
-fill-wrong-spec =
+pub fill_wrong_spec : {M : Type 1} → statement M
+fill_wrong_spec =
     tie.close
     (tie.spec
     (λ c κs. search rules)
-    (λ c. sym (size c.before))
+    (λ c. sym (size c))
     (λ c. search rules)
     all-inverses-requires
     (λ c. search rules)

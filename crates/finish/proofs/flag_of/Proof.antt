@@ -11,8 +11,8 @@ other : (m : ℕ) → (m ≡ 0 → ⊥) → 0 ≡ flag_of m
 other zero h = absurd (h refl)
 other (suc m) h = refl
 
-returns-2 : tie.Need-returns-2
-returns-2 c = other c.before.args.value c.if1.false
+returns-2 : tie.Need-returns-else-value-eq0
+returns-2 c = other c.args.value c.if-value-eq0.false
 
-pub flag-of-spec : {M : Type 1} → statement M
-flag-of-spec = tie.close (tie.spec (λ c. search rules) returns-2)
+pub flag_of_spec : {M : Type 1} → statement M
+flag_of_spec = tie.close (tie.spec (λ c. search rules) returns-2)

@@ -13,28 +13,28 @@ use borrow.Author.Rules.{rules}
 use Rattle.finish.proofs.gather.Statement.{statement}
 use Rattle.finish.proofs.gather.Tie as tie
 
-abbrev invariant-loop : tie.invariant-loop
+abbrev invariant-loop : tie.invariant-loop-i
 invariant-loop flags row s₀ j₀ i₀ s j i =
     (i ≤ length flags) × (j ≤ i) × (length s ≡ length s₀)
     × (j + length (right (drop i flags) (drop i row)) ≡ length (right flags row))
     × (lay j (right (drop i flags) (drop i row)) s ≡ lay 0 (right flags row) s₀)
 
-abbrev decreases-loop : tie.decreases-loop
+abbrev decreases-loop : tie.decreases-loop-i
 decreases-loop flags row s₀ j₀ i₀ s j i = length flags - i
 
-loop-again : tie.Need-loop-preserved invariant-loop decreases-loop
+loop-again : tie.Need-loop-i-preserved invariant-loop decreases-loop
 loop-again c =
-    let start = c.before.before.before.before in
-    let turn = c.before.before.before.loop in
+    let start = c in
+    let turn = c.loop-i in
     let ms = start.args.flags.now in
     let l = start.args.row.now in
-    let more = c.before.before.loop-test.true in
+    let more = c.loop-i-test.true in
     let fits : turn.j + length (right (drop turn.i ms) (drop turn.i l)) ≤ length turn.s =
     omega (arith, turn.invariant, right-most ms l, start.requires) in
-    let one : Gathered ms l turn.i turn.s turn.j c.if1.s c.if1.j = ⊎_elim
-    (λ w. gathered_in ms l turn.i more start.requires.0 turn.s turn.j fits w.0.taken w.2 w.3)
-    (λ w. gathered_out ms l turn.i more start.requires.0 turn.s turn.j fits w.0.left w.1 w.2)
-    c.if1.branch in (
+    let one : Gathered ms l turn.i turn.s turn.j c.if-flags-i-eq0.s c.if-flags-i-eq0.j = ⊎_elim
+    (λ w. gathered_in ms l turn.i more start.requires.0 turn.s turn.j fits w.if-flags-i-eq0.true w.s-is w.j-is)
+    (λ w. gathered_out ms l turn.i more start.requires.0 turn.s turn.j fits w.if-flags-i-eq0.false w.s-is w.j-is)
+    c.if-flags-i-eq0.branch-raw in (
       omega (arith, more),
       omega (arith, one.small, turn.invariant),
       one.long ∙ turn.invariant.2,
@@ -44,12 +44,12 @@ loop-again c =
 
 returns : tie.Need-returns invariant-loop decreases-loop
 returns c =
-    let turn = c.before.loop in
-    let none = right_none c.before.before.args.flags.now c.before.before.args.row.now turn.i c.loop-test.false in
+    let turn = c.loop-i in
+    let none = right_none c.args.flags.now c.args.row.now turn.i c.loop-i-test.false in
     (omega (arith, ap length none, turn.invariant.3), sym (lay_none turn.j turn.s) ∙ rw none at turn.invariant.4)
 
-pub gather-spec : {M : Type 1} → statement M
-gather-spec =
+pub gather_spec : {M : Type 1} → statement M
+gather_spec =
     tie.close
     (tie.spec
     invariant-loop
