@@ -14,7 +14,7 @@ use mark::Outcome;
 // A code, a factor for each of its columns, and an array, row after row. Laid out as the array, `above` has of each row, its symbols
 // divided by their columns' factors, the coefficients of the interpolating polynomial from the row's length on, and zeros before
 // them; `misfits` rows have a nonzero one. Places that the code does not use are zero.
-#[derive(Drop)]
+#[derive(Clone, Copy)]
 pub struct Desk {
     pub degree: u32,
     pub columns: usize,
@@ -28,21 +28,21 @@ pub struct Desk {
 }
 
 // What opening hands over.
-#[derive(Drop)]
+#[derive(Clone, Copy)]
 pub struct Opened {
     pub outcome: Outcome,
     pub desk: Desk,
 }
 
 // What putting a column hands back.
-#[derive(Drop)]
+#[derive(Clone, Copy)]
 pub struct Put {
     pub outcome: Outcome,
     pub desk: Desk,
 }
 
 // What the verdict hands back.
-#[derive(Drop)]
+#[derive(Clone, Copy)]
 pub struct Judged {
     pub verdict: usize,
     pub desk: Desk,

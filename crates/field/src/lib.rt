@@ -10,7 +10,7 @@ ghost use Rattle.field.specs.Symbols.{plus, times, over};
 ghost use Rattle.field.specs.Values.{checks, quotient_checks, Gives};
 
 // What an arithmetic call answers: the symbol, or the number of the refusal.
-#[derive(Drop)]
+#[derive(Clone, Copy)]
 pub enum Value {
     Symbol(u8),
     Refused(u8),

@@ -11,7 +11,7 @@ ghost use Rattle.listing.specs.Working.{Listed, Passed};
 ghost use Rattle.listing.specs.declared.Answer.TheVariants.{Total};
 
 // How a listing finished: with so many arrays that fit, or refused with its number.
-#[derive(Drop)]
+#[derive(Clone, Copy)]
 pub enum Answer {
     Total(u32),
     Refused(u8),

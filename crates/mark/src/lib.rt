@@ -1,4 +1,6 @@
 // Interleaved Reed-Solomon arrays: encoding and reading.
+#![tactic(auto)]
+
 mod encoding;
 pub mod reading;
 
@@ -6,7 +8,7 @@ ghost use Rattle.codes.specs.Factors.{description_of};
 ghost use Rattle.mark.specs.Promises.{Encodes, Reads, left};
 
 // How an encoding or a reading finished: done with the result written, or refused with its number.
-#[derive(Drop)]
+#[derive(Clone, Copy)]
 pub enum Outcome {
     Done,
     Refused(u8),

@@ -13,7 +13,7 @@ use ending::Ending;
 
 // The answer to what is left of the input: nothing is left; a line, after which reading stops; a line, after which it goes on.
 // The number is the line's length.
-#[derive(Drop)]
+#[derive(Clone, Copy)]
 pub enum Reply {
     End,
     Last(usize),

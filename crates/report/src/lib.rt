@@ -11,7 +11,7 @@ use mark::Outcome;
 
 // Of a code with so many columns: how many marks were entered, and how many with each ending, by its code; their wrong columns in
 // total, for each column number, and the most in one mark. The places of columns that the code does not have are zero.
-#[derive(Drop)]
+#[derive(Clone, Copy)]
 pub struct Report {
     pub columns: usize,
     pub marks: usize,
@@ -22,21 +22,21 @@ pub struct Report {
 }
 
 // What opening hands over.
-#[derive(Drop)]
+#[derive(Clone, Copy)]
 pub struct Opened {
     pub outcome: Outcome,
     pub report: Report,
 }
 
 // What entering a mark hands back.
-#[derive(Drop)]
+#[derive(Clone, Copy)]
 pub struct Entered {
     pub outcome: Outcome,
     pub report: Report,
 }
 
 // Which of two suppliers comes first.
-#[derive(Drop)]
+#[derive(Clone, Copy)]
 pub enum Ranking {
     Equal,
     First,

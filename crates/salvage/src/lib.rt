@@ -15,7 +15,7 @@ use record::text::put_text;
 
 // What stands at the front of what is left of the file: nothing; a record, of so many bytes, with a line of so many; bytes that are
 // skipped, so many.
-#[derive(Drop)]
+#[derive(Clone, Copy)]
 pub enum Found {
     End,
     Kept(usize, usize),

@@ -22,7 +22,7 @@ use field::tables::LENT;
 use mark::Outcome;
 
 // A mark's ending and its detail: 01's code and detail.
-#[derive(Drop)]
+#[derive(Clone, Copy)]
 pub struct Answer {
     pub ending: u8,
     pub detail: u8,

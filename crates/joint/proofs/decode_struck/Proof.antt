@@ -34,10 +34,10 @@ module _ (start : tie.Start) where
   y = start.args.received.now
 
   ready : ReadyLost D.code start.args.limit L y
-  ready = start.pre.0.0
+  ready = start.requires.0.0
 
   factors : Factors D
-  factors = start.pre.1.1.1.0
+  factors = start.requires.1.1.1.0
 
   abbrev lent : Buffers
   lent = buffers start.args.answer.now start.args.flags.now
@@ -49,7 +49,7 @@ module _ (start : tie.Start) where
   room = omega (arith, ready.received.count, ready.counts.cells)
 
 -- with factors of one there is nothing to divide
-module _ (t : tie.Then1) where
+module _ (t : tie.Then-ones) where
   abbrev plainly : tie.Start
   plainly = t.before.before.before.before.before.before.before.before.before.before
 
@@ -57,29 +57,29 @@ module _ (t : tie.Then1) where
       → StruckEnds (D plainly) (L plainly) (y plainly) plainly.args.limit (lent plainly) e b
   one_struck e b h =
       let r = ready plainly in
-      each_one_struck (D plainly) r.proper (factors plainly) (plainly.pre.1.1.1.1 t.if1.taken) r.received (Table plainly)
+      each_one_struck (D plainly) r.proper (factors plainly) (plainly.requires.1.1.1.1 t.if-ones.true) r.received (Table plainly)
       (λ n b h. corrected_array (D plainly).code (L plainly) r.proper h) e b h
 
 -- and if nothing is lost, nothing to fill in
-none : (c : tie.Then2) → [] ≡ L (plainly c.before)
-none c = empty (L (plainly c.before)) c.if2.true
+none : (c : tie.Then-lost-eq0) → [] ≡ L (plainly c.before)
+none c = empty (L (plainly c.before)) c.if-lost-eq0.true
 
-work-whole-requires : tie.Need-work-whole-requires
+work-whole-requires : tie.Need-work_whole-requires
 work-whole-requires c κs =
     let n = c.before.before.before in
     let s = plainly n.before in
-    (whole_of (ready s) (none n), ((s.pre.1.0.0, s.pre.1.0.1, s.pre.0.1), s.pre.1.1.0))
+    (whole_of (ready s) (none n), ((s.requires.1.0.0, s.requires.1.0.1, s.requires.0.1), s.requires.1.1.0))
 
-returns : tie.Need-returns
+returns : tie.Need-returns-then-lost-eq0
 returns c =
-    let w = c.before.before.before.before.before.before in
+    let w = c in
     let n = c.before.before.before.before.before.before.before.before.before.before in
     let t = n.before in
     let s = plainly t in
-    let b = buffers w.work-whole.new.1.1.1.1.1.1.1.0 w.work-whole.new.1.1.1.1.1.1.1.1.0 in
-    one_struck t w.work-whole.result b (whole_ends (ready s) (none n) (lent s) b w.work-whole.result w.work-whole.ensures)
+    let b = buffers w.work_whole.new.answer w.work_whole.new.flags in
+    one_struck t w.work_whole.result b (whole_ends (ready s) (none n) (lent s) b w.work_whole.result w.work_whole.ensures)
 
-work-lost-requires : tie.Need-work-lost-requires
+work-lost-requires : tie.Need-work_lost-requires
 work-lost-requires c κs =
     let t = c.before.before.before.before in
     let p = (plainly t).requires in
@@ -90,12 +90,12 @@ divide-requires c κs =
     let o = c.before.before.before.before.before.before.before.before.before.before.before in
     (striking {D = D o} (ready o).counts (factors o) (ready o).received, room o)
 
-returns-2 : tie.Need-returns-2
+returns-2 : tie.Need-returns-then-ones
 returns-2 c =
-    let w = c.before.before.before.before.before.before in
-    let left = w.work-lost.new.1.1.1.1.1.1.1.1 in
+    let w = c in
+    let left = w.work_lost.new in
     let t = c.before.before.before.before.before.before.before.before.before.before.before in
-    one_struck t w.work-lost.result (buffers left.0 left.1.0) w.work-lost.ensures
+    one_struck t w.work_lost.result (buffers left.answer left.flags) w.work_lost.ensures
 
 -- where the array is divided
 module _ (c : tie.After-divide) where
@@ -103,7 +103,7 @@ module _ (c : tie.After-divide) where
   asked = c.before.before.before.before.before.before.before.before.before.before.before.before
 
   abbrev quotient : List ℕ
-  quotient = take (length (y asked)) c.divide.new.1.1.1.1.0
+  quotient = take (length (y asked)) c.divide.new.s
 
   is_quotient : quotient ≡ divided (D asked) (y asked)
   is_quotient = c.divide.ensures
@@ -115,25 +115,25 @@ module _ (c : tie.After-divide) where
   same : length quotient ≡ length (y asked)
   same = quotient_array.count ∙ sym (ready asked).received.count
 
-work-lost-requires-2 : tie.Need-work-lost-requires-2
+work-lost-requires-2 : tie.Need-work_lost-ending-requires
 work-lost-requires-2 c κs =
     let d = c.before.before.before.before.before in
     let s = asked d in
     let r = ready s in (
-      (record { counts = r.counts; proper = r.proper; received = quotient_array d; remain = r.remain }, s.pre.0.1),
-      ((s.pre.1.0.0 ∙ sym (same d), s.pre.1.0.1), s.pre.1.1.0),
+      (record { counts = r.counts; proper = r.proper; received = quotient_array d; remain = r.remain }, s.requires.0.1),
+      ((s.requires.1.0.0 ∙ sym (same d), s.requires.1.0.1), s.requires.1.1.0),
     )
 
 -- where the quotient is decoded
-module _ (c : tie.After-work-lost2) where
+module _ (c : tie.After-work_lost-ending) where
   abbrev parted : tie.After-divide
   parted = c.before.before.before.before.before.before
 
   abbrev answer : Buffers
-  answer = buffers c.work-lost2.new.1.1.1.1.1.1.1.1.0 c.work-lost2.new.1.1.1.1.1.1.1.1.1.0
+  answer = buffers c.work_lost-ending.new.answer c.work_lost-ending.new.flags
 
-  ends : Table (asked parted) (divided (D (asked parted)) (y (asked parted))) c.work-lost2.result answer
-  ends = subst (λ (z : List ℕ). Table (asked parted) z c.work-lost2.result answer) (is_quotient parted) c.work-lost2.ensures
+  ends : Table (asked parted) (divided (D (asked parted)) (y (asked parted))) c.work_lost-ending.result answer
+  ends = subst (λ (z : List ℕ). Table (asked parted) z c.work_lost-ending.result answer) (is_quotient parted) c.work_lost-ending.ensures
 
 strike-requires : tie.Need-strike-requires
 strike-requires c κs w is =
@@ -143,14 +143,14 @@ strike-requires c κs w is =
     striking {D = D o} r.counts (factors o) (corrected_array (D o).code (L o) r.proper
     (subst (λ (e : Ending). Table o (divided (D o) (y o)) e (answer d)) is (ends d)))
 
-returns-3 : tie.Need-returns-3
+returns-3 : tie.Need-returns
 returns-3 c =
-    let k = c.before.before in
+    let k = c in
     let d = c.before.before.before.before.before.before.before.before.before.before in
     record { answer = answer d; ends = ends d; back = k.strike.ensures (answer d).flags }
 
-pub decode-struck-spec : {M : Type 1} → statement M
-decode-struck-spec = tie.close (tie.spec
+pub decode_struck_spec : {M : Type 1} → statement M
+decode_struck_spec = tie.close (tie.spec
     work-whole-requires
     (λ c. search rules) (λ c. search rules) (λ c. search rules)
     returns
@@ -159,7 +159,7 @@ decode-struck-spec = tie.close (tie.spec
     returns-2
     (λ c. search rules)
     divide-requires
-    (λ c. let d = c.before in omega (arith, d.divide.auto.1.1.1.1.0, room (asked d)))
+    (λ c. let d = c.before in omega (arith, d.divide.auto.s, room (asked d)))
     (λ c. sym (same c.before.before))
     work-lost-requires-2
     strike-requires

@@ -20,10 +20,10 @@ module _ (c : tie.After-copy) where
   abbrev asked : tie.Start
   asked = c.before.before.before.before.before.before.before.before.before
 
-  held_are : take (length asked.args.points.now) c.copy.new.1.0 ≡ asked.args.points.now
-  held_are = take_copied asked.args.points.now (replicate 96 0) c.copy.ensures.1
+  held_are : take (length asked.args.points.now) c.copy.new.s ≡ asked.args.points.now
+  held_are = take_copied asked.args.points.now (replicate 96 0) c.copy.ensures
 
-module _ (c : tie.After-end) where
+module _ (c : tie.After-end-ending) where
   abbrev copied : tie.After-copy
   copied = c.before.before.before.before.before.before
 
@@ -44,16 +44,16 @@ module _ (c : tie.After-end) where
 
   -- the buffers of our own
   abbrev own : List ℕ
-  own = c.end.new.1.1.1.1.1.1.1.0
+  own = c.end-ending.new.array
 
   abbrev wrong : List ℕ
-  wrong = c.end.new.1.1.1.1.1.1.1.1.0
+  wrong = c.end-ending.new.flags
 
   own_room : length y ≤ length own
-  own_room = omega (arith, start.pre.0.0.received.count, start.pre.0.0.counts.cells, c.end.auto)
+  own_room = omega (arith, start.requires.0.0.received.count, start.requires.0.0.counts.cells, c.end-ending.auto)
 
   wrong_room : length xs ≤ length wrong
-  wrong_room = omega (arith, start.pre.0.0.counts.most_columns, c.end.auto)
+  wrong_room = omega (arith, start.requires.0.0.counts.most_columns, c.end-ending.auto)
 
   own_size : length (take (length y) own) ≡ length y
   own_size = length-take-le (length y) own own_room
@@ -62,13 +62,13 @@ module _ (c : tie.After-end) where
   wrong_size = length-take-le (length xs) wrong wrong_room
 
   -- the array of these points ends so
-  ended : let r = c.end.result in Ends code y start.args.limit lent r (released r (fronts code own wrong) lent)
+  ended : let r = c.end-ending.result in Ends code y start.args.limit lent r (released r (fronts code own wrong) lent)
   ended =
-      let r = c.end.result in
+      let r = c.end-ending.result in
       subst (λ (ps : List ℕ). let k = code_of start.args.degree ps start.args.lengths.now in
-      Ends k y start.args.limit lent r (released r (fronts k own wrong) lent)) (held_are copied) (c.end.ensures lent)
+      Ends k y start.args.limit lent r (released r (fronts k own wrong) lent)) (held_are copied) (c.end-ending.ensures lent)
 
-end-requires : tie.Need-end-requires
+end-requires : tie.Need-end-ending-requires
 end-requires c κs =
     let o = c.before.before.before.before.before in
     let p = (asked o).requires in
@@ -83,14 +83,14 @@ release-requires c κs =
 returns : tie.Need-returns
 returns c =
     let o = c.before.before.before.before.before.before.before.before.before.before.before.before.before in
-    let r = o.end.result in
-    let left = c.before.before.before.before.release.ensures
+    let r = o.end-ending.result in
+    let left = c.release.ensures
     ∙ ap (λ (m : ℕ). released r (buffers (take m (own o)) (take (length (xs o)) (wrong o))) (lent o))
     (start o).requires.0.0.received.count in
     subst (Ends (code o) (y o) (start o).args.limit (lent o) r) (sym left) (ended o)
 
-pub work-whole-spec : {M : Type 1} → statement M
-work-whole-spec = tie.close (tie.spec
+pub work_whole_spec : {M : Type 1} → statement M
+work_whole_spec = tie.close (tie.spec
     (λ c. search rules)
     (λ c κs. search rules)
     (λ c. search rules)

@@ -23,7 +23,7 @@ abbrev code : tie.Start → Code
 code c = code_of c.args.degree c.args.points.now c.args.lengths.now
 
 -- where the conditions are worked out
-module _ (c : tie.After-conditions) where
+module _ (c : tie.After-conditions-n) where
   abbrev start : tie.Start
   start = c.before.before.before.before.before.before.before.before.before.before
 
@@ -41,41 +41,41 @@ module _ (c : tie.After-conditions) where
 
   -- the values and the points, with room behind them
   abbrev us : List ℕ
-  us = c.conditions.new.1.1.1.1.1.1.0
+  us = c.conditions-n.new.us
 
   abbrev ps : List ℕ
-  ps = c.conditions.new.1.1.1.1.1.1.1.0
+  ps = c.conditions-n.new.xs
 
   abbrev n : ℕ
-  n = c.conditions.result
+  n = c.conditions-n.result
 
   few : n ≤ 380
-  few = omega (arith, c.conditions.ensures.0, most_points xs d ks start.pre.0.counts)
+  few = omega (arith, c.conditions-n.ensures.0, most_points xs d ks start.requires.0.counts)
 
   values_room : n ≤ length us
-  values_room = omega (arith, few, c.conditions.auto)
+  values_room = omega (arith, few, c.conditions-n.auto)
 
   points_room : n ≤ length ps
-  points_room = omega (arith, few, c.conditions.auto)
+  points_room = omega (arith, few, c.conditions-n.auto)
 
   points : take n ps ≡ reduced_points xs ks
-  points = take-lay (reduced_points xs ks) (replicate 384 0) c.conditions.ensures.2 (sym c.conditions.ensures.0)
+  points = take-lay (reduced_points xs ks) (replicate 384 0) c.conditions-n.ensures.2 (sym c.conditions-n.ensures.0)
       (omega (arith, few))
 
   values : take n us ≡ reduced_values d xs ks y
-  values = take-lay (reduced_values d xs ks y) (replicate 384 0) c.conditions.ensures.1
-      (length-values d start.pre.0.proper.field xs ks y start.pre.0.received.count ∙ sym c.conditions.ensures.0)
+  values = take-lay (reduced_values d xs ks y) (replicate 384 0) c.conditions-n.ensures.1
+      (length-values d start.requires.0.proper.field xs ks y start.requires.0.received.count ∙ sym c.conditions-n.ensures.0)
       (omega (arith, few))
 
 -- a code array is its own answer
-returns : tie.Need-returns
+returns : tie.Need-returns-then-all_zero
 returns c = λ lent.
     let o = c.before.before.before.before.before.before.before.before.before in
     let p = (start o).requires in
     let a = (start o).args in
     let zeros = all_reduced (d o) p.0.proper.field (xs o) (ks o) (y o)
-    (rw (values o) at (c.before.before.before.before.before.all_zero.ensures.0 c.before.before.before.before.if1.true)) in
-    let array = take-lay (y o) a.array.now c.before.before.store.ensures p.0.received.count
+    (rw (values o) at (c.all_zero.ensures.0 c.if-all_zero.true)) in
+    let array = take-lay (y o) a.array.now c.store.ensures p.0.received.count
     (omega (arith, p.0.counts.cells, p.1.1.0.1)) in
     let flags = ap (take (length (xs o))) p.1.1.0.2 ∙ take-replicate (length (xs o)) 96 0 p.0.counts.most_columns in
     subst (Corrects (code (start o)) (y o) a.limit 0) (λ i. record { array = sym array i; flags = sym flags i })
@@ -87,7 +87,7 @@ locate-requires c κs =
     let p = (start o).requires in
     (p.0, (p.1.0, ((values o, points o), (p.1.1.0.0, p.1.1.0.1, ap length p.1.1.0.2 ∙ length-replicate {A = ℕ} 96 0))))
 
-returns-2 : tie.Need-returns-2
+returns-2 : tie.Need-returns
 returns-2 c = λ lent.
     let l = c.before.before.before.before.before.before in
     let o = l.before.before.before.before.before.before.before.before.before.before.before in
@@ -96,8 +96,8 @@ returns-2 c = λ lent.
     subst (λ (r : Outcome). Ends (code (start o)) (y o) a.limit lent r.0 r.1) (l.locate.ensures lent)
     (model_ends p.0.proper p.0.received a.limit p.1.0.0 lent)
 
-pub end-spec : {M : Type 1} → statement M
-end-spec = tie.close (tie.spec
+pub end_spec : {M : Type 1} → statement M
+end_spec = tie.close (tie.spec
     (λ c. search rules)
     (λ c. search rules)
     (λ c κs. search rules)

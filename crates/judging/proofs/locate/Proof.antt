@@ -66,21 +66,21 @@ module _ (c : tie.Start) where
   }
 
 -- where the rows' counts are written
-module _ (c : tie.After-row-counts) where
+module _ (c : tie.After-row_counts) where
   abbrev start : tie.Start
   start = c.before.before.before.before.before.before.before.before.before.before
 
   abbrev counts : List ℕ
-  counts = c.row_counts.new.1.1.0
+  counts = c.row_counts.new.counts
 
   size : length (take (length (ks start)) counts) ≡ length (ks start)
-  size = length-take-le _ counts (omega (arith, start.pre.0.counts.most_rows, c.row_counts.auto))
+  size = length-take-le _ counts (omega (arith, start.requires.0.counts.most_rows, c.row_counts.auto))
 
 solve-requires : tie.Need-solve-requires
 solve-requires c κs =
     let o = c.before.before.before.before in
     let s = start o in
-    let p = s.pre in
+    let p = s.requires in
     let sized = size o in (
       (p.0.counts.degree, p.1.0.1, points s, values s),
       (
@@ -91,17 +91,17 @@ solve-requires c κs =
 
 decide-requires : tie.Need-decide-requires
 decide-requires c κs =
-    let o = c.before.before.before.before.before.before.before.before.before.before.before in
+    let o = c.before.before.before.before.before.before.before.before.before.before in
     let s = start o in
-    let p = s.pre in
-    let solve = c.before.before.before.before.before.before.solve in
+    let p = s.requires in
+    let solve = c.solve in
     let held = solve.ensures (rows_of (code s) (y s)) (are s o.row_counts.ensures) in
-    let lines = subst₂ (λ (C n : ℕ). HoldsLines (d s) C (suc n) C solve.new.1.1.1.1.1.0 solve.new.1.1.1.1.1.1.0
+    let lines = subst₂ (λ (C n : ℕ). HoldsLines (d s) C (suc n) C solve.new.leads solve.new.space
     (lines_of (code s) (y s))) (count s) (rows-count (code s) (y s)) held in
     (p.0, (p.1.0, ((few s, omega (arith, p.1.1.1.0, solve.auto), p.1.1.1.1, p.1.1.1.2), lines)))
 
-pub locate-spec : {M : Type 1} → statement M
-locate-spec = tie.close (tie.spec
+pub locate_spec : {M : Type 1} → statement M
+locate_spec = tie.close (tie.spec
     (λ c. search rules)
     (λ c κs. search rules)
     (λ c. search rules)

@@ -2,7 +2,6 @@
 -- Assumes nothing.
 use mathlib.Core.Path.{◌≡◌, refl, sym, ap, ◌∙◌, subst}
 use mathlib.Core.List.{List}
-use Prim.Native.Nat.{ℕ}
 use Rattle.refusal.specs.Refusal.{Check, first}
 use Rattle.refusal.proofs.Keeping.{refuses}
 use Rattle.codes.specs.Code.{IsArray}

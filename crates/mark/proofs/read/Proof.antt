@@ -7,8 +7,8 @@ use native.Mathlib.Omega.{arith}
 use lib.ListN.{length, take}
 use Rattle.refusal.specs.Refusal.{Check, first}
 use Rattle.refusal.proofs.Keeping.{refuses}
-use Rattle.codes.specs.Code.{IsArray, IsMessage, CodeArray, encoded}
-use Rattle.codes.specs.Factors.{Description, description_of, encoded_by, multiplied, divided, CodeArrayBy}
+use Rattle.codes.specs.Code.{IsArray, IsMessage, CodeArray}
+use Rattle.codes.specs.Factors.{Description, description_of, encoded_by, multiplied, divided}
 use Rattle.codes.specs.Checks.{read_checks}
 use Rattle.codes.proofs.Passed.{PassedReading, reading}
 use Rattle.codes.proofs.Factors.{Factors, is_divided, multiplied-divided, code_divided}

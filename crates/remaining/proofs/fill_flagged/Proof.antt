@@ -21,7 +21,7 @@ front n ms e h is = take-lay (zeros_in ms) (replicate 96 0) is (zeros-count ms �
 whole : (n : ℕ) (ms : List ℕ) {s : List ℕ} → s ≡ lay 0 (zeros_in ms) (replicate 96 0) → length s ≡ 96
 whole n ms is = ap length is ∙ length-lay 0 (zeros_in ms) (replicate 96 0)
 
-module _ (c : tie.After-flag-zeros) where
+module _ (c : tie.After-flag_zeros) where
   abbrev start : tie.Start
   start = c.before.before.before.before.before.before.before.before
 
@@ -29,56 +29,56 @@ module _ (c : tie.After-flag-zeros) where
   n = length start.args.points.now
 
   abbrev stay : List ℕ
-  stay = c.flag-zeros.new.1.0
+  stay = c.flag_zeros.new.flags
 
   few : n ≤ 96
-  few = start.pre.0.counts.most_columns
+  few = start.requires.0.counts.most_columns
 
   stays : take n stay ≡ zeros_in start.args.flags.now
-  stays = front n start.args.flags.now start.pre.1.1.0 few c.flag-zeros.ensures.1
+  stays = front n start.args.flags.now start.requires.1.1.0 few c.flag_zeros.ensures.1
 
   stay_size : length (take n stay) ≡ n
-  stay_size = ap length stays ∙ zeros-count start.args.flags.now ∙ start.pre.1.1.0
+  stay_size = ap length stays ∙ zeros-count start.args.flags.now ∙ start.requires.1.1.0
 
   long : length stay ≡ 96
-  long = whole n start.args.flags.now c.flag-zeros.ensures.1
+  long = whole n start.args.flags.now c.flag_zeros.ensures.1
 
-module _ (c : tie.After-flag-zeros2) where
-  abbrev first : tie.After-flag-zeros
+module _ (c : tie.After-flag_zeros-2) where
+  abbrev first : tie.After-flag_zeros
   first = c.before.before.before.before
 
   abbrev fill : List ℕ
-  fill = c.flag-zeros2.new.1.0
+  fill = c.flag_zeros-2.new.flags
 
   fills : take (n first) fill ≡ zeros_in (take (n first) (stay first))
-  fills = front (n first) (take (n first) (stay first)) (stay_size first) (few first) c.flag-zeros2.ensures.1
+  fills = front (n first) (take (n first) (stay first)) (stay_size first) (few first) c.flag_zeros-2.ensures.1
 
   fill_size : length (take (n first) fill) ≡ n first
   fill_size = ap length fills ∙ zeros-count (take (n first) (stay first)) ∙ stay_size first
 
   fill_long : length fill ≡ 96
-  fill_long = whole (n first) (take (n first) (stay first)) c.flag-zeros2.ensures.1
+  fill_long = whole (n first) (take (n first) (stay first)) c.flag_zeros-2.ensures.1
 
   to_fill_lem : take (n first) fill ≡ to_fill (start first).args.flags.now
   unfolding to_fill
   to_fill_lem = fills ∙ ap zeros_in (stays first)
 
-lend-requires : tie.Need-lend-requires
-lend-requires c κs = c.before.before.before.before.before.requires.0.counts.degree
+lend-requires : tie.Need-lend-table-requires
+lend-requires c κs = c.requires.0.counts.degree
 
-flag-zeros-requires : tie.Need-flag-zeros-requires
+flag-zeros-requires : tie.Need-flag_zeros-requires
 flag-zeros-requires c κs =
-    let s = c.before.before.before.before.before.before.before in
+    let s = c in
     omega (arith, s.requires.1.1.0, s.requires.0.counts.most_columns)
 
 fill-requires : tie.Need-fill-requires
 fill-requires c κs =
     let d = c.before.before.before.before.before in
     let s = start (first d) in (
-      s.pre.0,
+      s.requires.0,
       (
-        ((first d).before.before.lend.ensures, s.pre.1.0),
-        (fills d, stay_size (first d), rw (to_fill_lem d) s.pre.1.1.1),
+        ((first d).lend-table.ensures, s.requires.1.0),
+        (fills d, stay_size (first d), rw (to_fill_lem d) s.requires.1.1.1),
       ),
     )
 
@@ -87,10 +87,10 @@ returns c =
     let f = c.before.before in
     let d = f.before.before.before.before.before.before in
     let s = start (first d) in
-    rw (to_fill_lem d) at f.fill4.ensures
+    rw (to_fill_lem d) at f.fill.ensures
 
-pub fill-flagged-spec : {M : Type 1} → statement M
-fill-flagged-spec =
+pub fill_flagged_spec : {M : Type 1} → statement M
+fill_flagged_spec =
     tie.close
     (tie.spec
     lend-requires

@@ -16,13 +16,13 @@ use borrow.Author.Rules.{rules}
 use Rattle.remaining.proofs.gather_rows.Statement.{statement}
 use Rattle.remaining.proofs.gather_rows.Tie as tie
 
-abbrev invariant-loop : tie.invariant-loop
+abbrev invariant-loop : tie.invariant-loop-l
 invariant-loop gone lengths received s₀ from₀ at₀ l₀ s from at l = RowAt (length gone) lengths l from
     × (at ≤ from) × (length s ≡ length s₀)
     × (lay at (right_rows gone (length gone) (length (drop l lengths)) (drop from received)) s
     ≡ lay 0 (right_rows gone (length gone) (length lengths) received) s₀)
 
-abbrev decreases-loop : tie.decreases-loop
+abbrev decreases-loop : tie.decreases-loop-l
 decreases-loop gone lengths received s₀ from₀ at₀ l₀ s from at l = length lengths - l
 
 -- the rows that are left: the first, and the others
@@ -43,14 +43,14 @@ rows_few fs (suc r) y = omega (
   rows_few fs r (drop (length fs) y),
 )
 
-abbrev entered : tie.At-loop invariant-loop decreases-loop → tie.Start invariant-loop decreases-loop
+abbrev entered : tie.At-loop-l invariant-loop decreases-loop → tie.Start invariant-loop decreases-loop
 entered c = c.before.before.before.before.before
 
-module _ (c : tie.In-loop invariant-loop decreases-loop) where
+module _ (c : tie.In-loop-l invariant-loop decreases-loop) where
   abbrev start : tie.Start invariant-loop decreases-loop
   start = entered c.before
 
-  abbrev turn : tie.At-loop invariant-loop decreases-loop
+  abbrev turn : tie.At-loop-l invariant-loop decreases-loop
   turn = c.before
 
   abbrev n : ℕ
@@ -59,81 +59,81 @@ module _ (c : tie.In-loop invariant-loop decreases-loop) where
   abbrev y : List ℕ
   y = start.args.received.now
 
-  room : turn.loop.from + n ≤ length y
-  room = omega (arith, row_room n start.args.lengths.now turn.loop.inv.0 c.loop-test.true, start.pre.0)
+  room : turn.loop-l.from + n ≤ length y
+  room = omega (arith, row_room n start.args.lengths.now turn.loop-l.invariant.0 c.loop-l-test.true, start.requires.0)
 
   -- the row that is lent
-  all : turn.loop.from + n - turn.loop.from ≡ n
+  all : turn.loop-l.from + n - turn.loop-l.from ≡ n
   all = omega arith
 
-  row : length (take n (drop turn.loop.from y)) ≡ n
-  row = row_size n start.args.lengths.now turn.loop.inv.0 c.loop-test.true y start.pre.0
+  row : length (take n (drop turn.loop-l.from y)) ≡ n
+  row = row_size n start.args.lengths.now turn.loop-l.invariant.0 c.loop-l-test.true y start.requires.0
 
-  fits : turn.loop.at + n ≤ length turn.loop.s
-  fits = omega (arith, room, start.pre.1, turn.loop.inv.1, turn.loop.inv.2)
+  fits : turn.loop-l.at + n ≤ length turn.loop-l.s
+  fits = omega (arith, room, start.requires.1, turn.loop-l.invariant.1, turn.loop-l.invariant.2)
 
-  left : length (take (length turn.loop.s - turn.loop.at) (drop turn.loop.at turn.loop.s))
-      ≡ length turn.loop.s - turn.loop.at
-  left = length-take-le _ (drop turn.loop.at turn.loop.s) (omega (arith, length-drop turn.loop.at turn.loop.s))
+  left : length (take (length turn.loop-l.s - turn.loop-l.at) (drop turn.loop-l.at turn.loop-l.s))
+      ≡ length turn.loop-l.s - turn.loop-l.at
+  left = length-take-le _ (drop turn.loop-l.at turn.loop-l.s) (omega (arith, length-drop turn.loop-l.at turn.loop-l.s))
 
 -- what the call leaves
-module _ (c : tie.After-gather invariant-loop decreases-loop) where
-  abbrev lent : tie.In-loop invariant-loop decreases-loop
+module _ (c : tie.After-gather-n invariant-loop decreases-loop) where
+  abbrev lent : tie.In-loop-l invariant-loop decreases-loop
   lent = c.before.before.before
 
   abbrev gathered : List ℕ
-  gathered = right (start lent).args.gone.now (take (n lent) (drop (turn lent).loop.from (y lent)))
+  gathered = right (start lent).args.gone.now (take (n lent) (drop (turn lent).loop-l.from (y lent)))
 
-  count : c.gather.result ≡ length gathered
-  count = rw (all lent) at c.gather.ensures.0
+  count : c.gather-n.result ≡ length gathered
+  count = rw (all lent) at c.gather-n.ensures.0
 
-  few : c.gather.result ≤ n lent
-  few = omega (arith, count, right-most (start lent).args.gone.now (take (n lent) (drop (turn lent).loop.from (y lent))))
+  few : c.gather-n.result ≤ n lent
+  few = omega (arith, count, right-most (start lent).args.gone.now (take (n lent) (drop (turn lent).loop-l.from (y lent))))
 
-  stored : take (turn lent).loop.at (turn lent).loop.s
-      ++ (c.gather.new.1.1.0 ++ drop (length (turn lent).loop.s - (turn lent).loop.at)
-      (drop (turn lent).loop.at (turn lent).loop.s))
-      ≡ lay (turn lent).loop.at gathered (turn lent).loop.s
-  stored = lay_rest (turn lent).loop.at gathered (turn lent).loop.s (omega (arith, fits lent, few, count))
-      (rw (all lent) at c.gather.ensures.1)
+  stored : take (turn lent).loop-l.at (turn lent).loop-l.s
+      ++ (c.gather-n.new.s ++ drop (length (turn lent).loop-l.s - (turn lent).loop-l.at)
+      (drop (turn lent).loop-l.at (turn lent).loop-l.s))
+      ≡ lay (turn lent).loop-l.at gathered (turn lent).loop-l.s
+  stored = lay_rest (turn lent).loop-l.at gathered (turn lent).loop-l.s (omega (arith, fits lent, few, count))
+      (rw (all lent) at c.gather-n.ensures.1)
 
-loop-again : tie.Need-loop-preserved invariant-loop decreases-loop
+loop-again : tie.Need-loop-l-preserved invariant-loop decreases-loop
 loop-again c =
     let g = c.before.before in
     let d = lent g in
-    let at = (turn d).loop.at in
-    let more = rows_more (start d).args.gone.now (start d).args.lengths.now (turn d).loop.l (turn d).loop.from (y d)
-    d.loop-test.taken in
-    let r : ℕ = length (drop ((turn d).loop.l + 1) (start d).args.lengths.now) in
-    let rest = right_rows (start d).args.gone.now (n d) r (drop ((turn d).loop.from + n d) (y d)) in
-    let row = next_row (n d) (start d).args.lengths.now (turn d).loop.inv.0 d.loop-test.taken in
-    let size : at + length (gathered g ++ rest) ≤ length (turn d).loop.s = omega (
+    let at = (turn d).loop-l.at in
+    let more = rows_more (start d).args.gone.now (start d).args.lengths.now (turn d).loop-l.l (turn d).loop-l.from (y d)
+    d.loop-l-test.true in
+    let r : ℕ = length (drop ((turn d).loop-l.l + 1) (start d).args.lengths.now) in
+    let rest = right_rows (start d).args.gone.now (n d) r (drop ((turn d).loop-l.from + n d) (y d)) in
+    let row = next_row (n d) (start d).args.lengths.now (turn d).loop-l.invariant.0 d.loop-l-test.true in
+    let size : at + length (gathered g ++ rest) ≤ length (turn d).loop-l.s = omega (
       arith,
       length-append (gathered g) rest,
       count g,
       few g,
-      rows_few (start d).args.gone.now r (drop ((turn d).loop.from + n d) (y d)),
+      rows_few (start d).args.gone.now r (drop ((turn d).loop-l.from + n d) (y d)),
       row.array,
-      (turn d).loop.inv.1,
-      (turn d).loop.inv.2,
-      (start d).pre,
+      (turn d).loop-l.invariant.1,
+      (turn d).loop-l.invariant.2,
+      (start d).requires,
     ) in (
       row,
-      omega (arith, few g, (turn d).loop.inv.1),
-      ap length (stored g) ∙ length-lay at (gathered g) (turn d).loop.s ∙ (turn d).loop.inv.2,
-      lay_behind at (gathered g) rest (turn d).loop.s (sym (count g)) (stored g) size
-          ∙ ap (λ (v : List ℕ). lay at v (turn d).loop.s) (sym more)
-          ∙ (turn d).loop.inv.3,
+      omega (arith, few g, (turn d).loop-l.invariant.1),
+      ap length (stored g) ∙ length-lay at (gathered g) (turn d).loop-l.s ∙ (turn d).loop-l.invariant.2,
+      lay_behind at (gathered g) rest (turn d).loop-l.s (sym (count g)) (stored g) size
+          ∙ ap (λ (v : List ℕ). lay at v (turn d).loop-l.s) (sym more)
+          ∙ (turn d).loop-l.invariant.3,
     )
 
 returns : tie.Need-returns invariant-loop decreases-loop
 unfolding right_rows
 returns c =
-    let none = drop_of_length-le (entered c.before).args.lengths.now c.loop-test.false in
-    sym (lay_none c.before.loop.at c.before.loop.s) ∙ rw none at c.before.loop.invariant.3
+    let none = drop_of_length-le c.args.lengths.now c.loop-l-test.false in
+    sym (lay_none c.loop-l.at c.loop-l.s) ∙ rw none at c.loop-l.invariant.3
 
-pub gather-rows-spec : {M : Type 1} → statement M
-gather-rows-spec =
+pub gather_rows_spec : {M : Type 1} → statement M
+gather_rows_spec =
     tie.close
     (tie.spec
     invariant-loop

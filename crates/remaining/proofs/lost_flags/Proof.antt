@@ -15,59 +15,59 @@ use borrow.Author.Rules.{rules}
 use Rattle.remaining.proofs.lost_flags.Statement.{statement}
 use Rattle.remaining.proofs.lost_flags.Tie as tie
 
-abbrev invariant-loop : tie.invariant-loop
+abbrev invariant-loop : tie.invariant-loop-i
 invariant-loop lost gone₀ i₀ gone i = (i ≤ length lost) × (gone ≡ lost_flags 96 (drop i lost))
 
-abbrev decreases-loop : tie.decreases-loop
+abbrev decreases-loop : tie.decreases-loop-i
 decreases-loop lost gone₀ i₀ gone i = i
 
 module _ (c : tie.After-wide invariant-loop decreases-loop) where
   abbrev start : tie.Start invariant-loop decreases-loop
   start = c.before.before.before.before.before
 
-  abbrev turn : tie.At-loop invariant-loop decreases-loop
+  abbrev turn : tie.At-loop-i invariant-loop decreases-loop
   turn = c.before.before.before
 
   abbrev i : ℕ
-  i = turn.loop.i - 1
+  i = turn.loop-i.i - 1
 
-  more : i + 1 ≡ turn.loop.i
-  more = omega (arith, c.before.before.loop-test.true)
+  more : i + 1 ≡ turn.loop-i.i
+  more = omega (arith, c.loop-i-test.true)
 
   below : c.wide.result < 96
-  below = rw c.wide.ensures (all-at (λ (j : ℕ). j < 96) start.args.lost.now i 0 (omega (arith, turn.loop.inv.0, more))
-      start.pre)
+  below = rw c.wide.ensures (all-at (λ (j : ℕ). j < 96) start.args.lost.now i 0 (omega (arith, turn.loop-i.invariant.0, more))
+      start.requires)
 
-  flagged : set turn.loop.gone c.wide.result 1 ≡ lost_flags 96 (drop i start.args.lost.now)
+  flagged : set turn.loop-i.gone c.wide.result 1 ≡ lost_flags 96 (drop i start.args.lost.now)
   flagged =
-      ap (λ (g : _). set g c.wide.result 1) turn.loop.inv.1
-      ∙ lost_more 96 c.wide.result (drop turn.loop.i start.args.lost.now) below
-      ∙ ap (lost_flags 96) (sym (next start.args.lost.now i (omega (arith, turn.loop.inv.0, more))
+      ap (λ (g : _). set g c.wide.result 1) turn.loop-i.invariant.1
+      ∙ lost_more 96 c.wide.result (drop turn.loop-i.i start.args.lost.now) below
+      ∙ ap (lost_flags 96) (sym (next start.args.lost.now i (omega (arith, turn.loop-i.invariant.0, more))
       ∙ rw (← c.wide.ensures, more)))
 
-loop-holds : tie.Need-loop-init invariant-loop decreases-loop
+loop-holds : tie.Need-loop-i-init invariant-loop decreases-loop
 unfolding flags_from is_in
-loop-holds c = (omega arith, rw (drop-length c.before.args.lost.now))
+loop-holds c = (omega arith, rw (drop-length c.args.lost.now))
 
-array-write-gone : tie.Need-array-write-gone invariant-loop decreases-loop
+array-write-gone : tie.Need-bounds-gone-wide invariant-loop decreases-loop
 array-write-gone c = omega (
   arith,
   below c,
-  ap length (turn c).loop.invariant.1,
+  ap length (turn c).loop-i.invariant.1,
   lost_length 96
-      (drop (turn c).loop.i (start c).args.lost.now),
+      (drop (turn c).loop-i.i (start c).args.lost.now),
 )
 
-loop-again : tie.Need-loop-preserved invariant-loop decreases-loop
-loop-again c = (omega (arith, (turn c).loop.invariant.0), flagged c)
+loop-again : tie.Need-loop-i-preserved invariant-loop decreases-loop
+loop-again c = (omega (arith, (turn c).loop-i.invariant.0), flagged c)
 
 returns : tie.Need-returns invariant-loop decreases-loop
 returns c =
-    let none : c.before.loop.i ≡ 0 = omega (arith, c.loop-test.false) in
-    c.before.loop.invariant.1 ∙ ap (λ (i : ℕ). lost_flags 96 (drop i c.before.before.before.args.lost.now)) none
+    let none : c.loop-i.i ≡ 0 = omega (arith, c.loop-i-test.false) in
+    c.loop-i.invariant.1 ∙ ap (λ (i : ℕ). lost_flags 96 (drop i c.args.lost.now)) none
 
-pub lost-flags-spec : {M : Type 1} → statement M
-lost-flags-spec =
+pub lost_flags_spec : {M : Type 1} → statement M
+lost_flags_spec =
     tie.close
     (tie.spec
     invariant-loop

@@ -18,7 +18,7 @@ use borrow.Author.Rules.{rules}
 use Rattle.remaining.proofs.merge_flags.Statement.{statement}
 use Rattle.remaining.proofs.merge_flags.Tie as tie
 
-module _ (c : tie.After-lost-flags) where
+module _ (c : tie.After-lost_flags-gone) where
   abbrev start : tie.Start
   start = c.before.before.before
 
@@ -28,24 +28,24 @@ module _ (c : tie.After-lost-flags) where
   abbrev gone : List ℕ
   gone = lost_flags n start.args.lost.now
 
-  long : length c.lost-flags.result ≡ 96
-  long = ap length c.lost-flags.ensures ∙ lost_length 96 start.args.lost.now
+  long : length c.lost_flags-gone.result ≡ 96
+  long = ap length c.lost_flags-gone.ensures ∙ lost_length 96 start.args.lost.now
 
-  front : take n c.lost-flags.result ≡ gone
-  front = lost_front n start.args.lost.now start.pre.0 c.lost-flags.ensures
+  front : take n c.lost_flags-gone.result ≡ gone
+  front = lost_front n start.args.lost.now start.requires.0 c.lost_flags-gone.ensures
 
-  size : length (take n c.lost-flags.result) ≡ n
+  size : length (take n c.lost_flags-gone.result) ≡ n
   size = ap length front ∙ lost_length n start.args.lost.now
 
   twos : take n (replicate {A = ℕ} 96 2) ≡ replicate (length gone) 2
-  twos = same_front 2 n 96 start.pre.0 ∙ ap (λ (m : ℕ). replicate m 2) (sym (lost_length n start.args.lost.now))
+  twos = same_front 2 n 96 start.requires.0 ∙ ap (λ (m : ℕ). replicate m 2) (sym (lost_length n start.args.lost.now))
 
   count : (b : ℕ) → length (take n (replicate 96 b)) ≡ n
-  count b = length-take-le n (replicate 96 b) (omega (arith, start.pre.0, length-replicate 96 b))
+  count b = length-take-le n (replicate 96 b) (omega (arith, start.requires.0, length-replicate 96 b))
 
-lost-flags-requires : tie.Need-lost-flags-requires
+lost-flags-requires : tie.Need-lost_flags-gone-requires
 lost-flags-requires c κs =
-    let s = c.before.before in
+    let s = c in
     all_map (λ (i : ℕ). i < s.args.n) (λ (i : ℕ). i < 96) s.args.lost.now (λ i h. omega (arith, s.requires.0)) s.requires.1
 
 merge-requires : tie.Need-merge-requires
@@ -62,20 +62,20 @@ returns : tie.Need-returns
 unfolding merged
 returns c =
     let d = c.before.before.before.before.before in
-    let whole = rw (front d, twos d) at c.before.merge.ensures in
+    let whole = rw (front d, twos d) at c.merge.ensures in
     let fits : length (put (gone d) (start d).args.wrong.now (replicate (length (gone d)) 2)) ≡ n d =
     put_count (gone d) (start d).args.wrong.now (replicate (length (gone d)) 2) ∙ length-replicate (length (gone d)) 2
     ∙ lost_length (n d) (start d).args.lost.now in
     (ap length whole ∙ length-lay 0 _ (replicate 96 0), take-lay _ (replicate 96 0) whole fits (omega (arith, (start d).requires.0)))
 
-pub merge-flags-spec : {M : Type 1} → statement M
-merge-flags-spec =
+pub merge_flags_spec : {M : Type 1} → statement M
+merge_flags_spec =
     tie.close
     (tie.spec
     lost-flags-requires
     (λ c. omega (arith, long c, (start c).requires.0))
     (λ c. sym (size c.before))
-    (λ c. omega (arith, (start c.before).pre.0))
+    (λ c. omega (arith, (start c.before).requires.0))
     (λ c. sym (count c.before.before _))
     (λ c. search rules)
     merge-requires

@@ -13,10 +13,9 @@ use Rattle.rows.proofs.Sharing.{fewer_rounds}
 use Rattle.codes.specs.Code.{Code, code_of}
 use Rattle.codes.proofs.Parts.{all_take, all_drop}
 use Rattle.codes.proofs.Passed.{up_to_largest}
-use Rattle.codes.proofs.Messages.{message_rows, ReducedRows, message_of, Reduced, array_message, its_message, code_array_exactly}
+use Rattle.codes.proofs.Messages.{message_rows, ReducedRows, message_of, array_message, its_message, code_array_exactly}
 use Rattle.mark.specs.Working.{RowRead}
 use Rattle.mark.proofs.Rows.{Laid, Place, laid-first, laid_next, laid_last, bounds, message_more, reduced_more}
-use borrow.Author.Tests.{not-true, not-false}
 use borrow.Author.Rules.{rules}
 use Rattle.mark.proofs.reading.read_rows.Statement.{statement}
 use Rattle.mark.proofs.reading.read_rows.Tie as tie
