@@ -1,4 +1,6 @@
 // The checks of the calls on interleaved arrays, in order.
+#![tactic(auto)]
+
 ghost use Rattle.std.specs.Prelude.{◌≡◌, true, false, ◌↔◌, List, [], ◌∷◌, ◌++◌, ℕ, ◌*◌, ◌≤◌, length};
 ghost use Rattle.refusal.specs.Refusal.{◌when◌, bad_degree, bad_points, first, some_outside, some_outside_field};
 ghost use Rattle.poly.specs.Poly.{All};

@@ -1,1 +1,3 @@
+#![tactic(auto)]
+
 // The least solutions of a growing system of linear conditions on vectors of polynomials.

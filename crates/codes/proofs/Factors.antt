@@ -33,7 +33,7 @@ use Rattle.field.specs.Arithmetic.{gf}
 use Rattle.field.proofs.Laws.{Field}
 use Rattle.poly.specs.Poly.{All}
 use Rattle.poly.proofs.Ring.{one_times, over_times, over_unique}
-use Rattle.codes.specs.Code.{Code, columns, rows, IsMessage, IsArray, encoded, differs, differs_at, flags_of, CodeArray}
+use Rattle.codes.specs.Code.{Code, columns, rows, IsArray, differs, differs_at, flags_of, CodeArray}
 use Rattle.codes.specs.Factors.{Description, with_factors_row, with_factors, multiplied, divided, CodeArrayBy, ones, plain}
 use Rattle.codes.specs.Checks.{bad_factors}
 use Rattle.codes.specs.Near.{Nearest, Near, Far}

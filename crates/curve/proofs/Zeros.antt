@@ -32,7 +32,7 @@ use Rattle.poly.proofs.Ring.{times_zero, one_times, plus_self, plus_cancel}
 use Rattle.codes.specs.Code.{up_from, total, flag, flags_from}
 use Rattle.codes.proofs.Parts.{all-at}
 use Rattle.codes.proofs.Flags.{points_where, count_where, where_exactly, all_where}
-use Rattle.basis.proofs.Vector.{mix, at, Below, Lead, up, at_zero, below_mix, lead_up, lead_or_zero, lead_below}
+use Rattle.basis.proofs.Vector.{mix, Below, Lead, up, at_zero, below_mix, lead_up, lead_or_zero, lead_below}
 use Rattle.basis.proofs.Scan.{all_map, all_of_map, all_both}
 use Rattle.basis.proofs.Basis.{Space, Form, Entry, Lawful, Led, kernels, to_kernels, up_within, of_up}
 use Rattle.basis.proofs.Survive.{Rising}

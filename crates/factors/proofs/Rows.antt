@@ -11,14 +11,14 @@
 -- Assumes nothing.
 use mathlib.Core.Path.{◌≡◌, refl, sym, ap, ap₂, ◌∙◌}
 use mathlib.Core.List.{List, [], ◌∷◌, ◌++◌}
-use Prim.Native.Nat.{ℕ, zero, suc, ◌+◌, ◌*◌, ◌^◌, ◌≤◌, ◌<◌}
-use native.Mathlib.Nat.{suc-mul, zero-mul}
+use Prim.Native.Nat.{ℕ, zero, suc, ◌+◌, ◌*◌, ◌≤◌, ◌<◌}
+use native.Mathlib.Nat.{suc-mul}
 use native.Mathlib.Omega.{arith}
 use lib.ListN.{length, get_or, take, drop, replicate, length-drop, length-append}
 use lib.Seq.{ext_get_or, get_or-take, get_or-drop, length-take-le, take-length}
 use Rattle.patch.specs.Parts.{part, lay}
 use Rattle.patch.proofs.Parts.{length_part, get_d_part, get_or-lay_above, length-lay, lay_none, patch_is_lay, lay_behind, take-lay}
-use Rattle.field.specs.Symbols.{IsSymbol, plus, times, over}
+use Rattle.field.specs.Symbols.{IsSymbol, times, over}
 use Rattle.field.specs.Arithmetic.{gf}
 use Rattle.field.specs.Working.Tables.{IsTable}
 use Rattle.field.proofs.Laws.{Field}
@@ -27,7 +27,7 @@ use Rattle.field.proofs.Sums.{plus-zero}
 use Rattle.poly.specs.Poly.{All}
 use Rattle.poly.proofs.Ring.{times-over, over_unique, one_times}
 use Rattle.lists.specs.Working.Lists.{SymbolsAt, multiplied_at, multiplied}
-use Rattle.codes.specs.Code.{Code, IsArray, rows}
+use Rattle.codes.specs.Code.{IsArray, rows}
 use Rattle.codes.specs.Factors.{Description, with_factors_row, with_factors}
 use Rattle.codes.proofs.Parts.{all-at, all_take, all_drop}
 use Rattle.codes.proofs.Passed.{Counts}

@@ -1,4 +1,6 @@
 // Column factors: the rows of an array multiplied by them, and divided by them. Factors of one cost nothing but to be looked at.
+#![tactic(auto)]
+
 ghost use Rattle.std.specs.Prelude.{◌≡◌, ◌*◌, ◌≤◌, length, take};
 ghost use Rattle.patch.specs.Parts.{lay, part};
 ghost use Rattle.field.specs.Symbols.{over, times};

@@ -1,4 +1,6 @@
 // From a locator to the answer: its roots among the points, and the wrong columns filled in.
+#![tactic(auto)]
+
 ghost use Rattle.std.specs.Prelude.{◌≡◌, false, ℕ, suc, ◌+◌, ◌≤◌, ◌<◌, length, take};
 ghost use Rattle.std.proofs.Math.Decide.{ℕ_discrete};
 ghost use Rattle.patch.specs.Parts.{lay};

@@ -1,4 +1,6 @@
 // Joint decoding of interleaved arrays.
+#![tactic(auto)]
+
 ghost use Rattle.std.specs.Prelude.{◌≡◌, true, List, ℕ, ◌≤◌, length, take};
 ghost use Rattle.field.specs.Symbols.{times};
 ghost use Rattle.field.specs.Working.Tables.{IsTable};

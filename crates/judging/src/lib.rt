@@ -1,5 +1,7 @@
 // The lines of the solver judged: how a decoding ends, from the conditions of the received array to the ending, with the answer in
 // buffers of our own.
+#![tactic(auto)]
+
 ghost use Rattle.std.specs.Prelude.{◌≡◌, true, false, List, ℕ, suc, ◌*◌, ◌≤◌, length, replicate};
 ghost use Rattle.field.specs.Working.Tables.{IsTable};
 ghost use Rattle.codes.specs.Code.{code_of, joint_limit};

@@ -1,6 +1,8 @@
 // The inner loops of the layers above: a constant times a part of a slice, the same added to another part or one place further on,
 // and the sums and products of two parts, symbol by symbol. All are worked out by bits, so that these loops vectorise: they are quickest
 // for lists of whole sixteens, and callers round up where they can.
+#![tactic(auto)]
+
 ghost use Rattle.std.specs.Prelude.{◌≡◌, false, ◌+◌, ◌%◌, ◌^◌, ◌≤◌, ◌<◌, length};
 ghost use Rattle.patch.specs.Patch.{patch};
 ghost use Rattle.refusal.specs.Refusal.{bad_degree};

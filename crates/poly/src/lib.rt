@@ -1,1 +1,3 @@
+#![tactic(auto)]
+
 // Polynomials over a field, as lists of coefficients.

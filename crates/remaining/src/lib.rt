@@ -1,4 +1,6 @@
 // The remaining columns of an array gathered, and lost columns filled in.
+#![tactic(auto)]
+
 ghost use Rattle.std.specs.Prelude.{◌≡◌, ℕ, ◌*◌, ◌≤◌, ◌<◌, length, take};
 ghost use Rattle.patch.specs.Parts.{lay};
 ghost use Rattle.poly.specs.Poly.{All};

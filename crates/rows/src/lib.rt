@@ -1,5 +1,7 @@
 // Routines on a row of symbols that lies in a slice from a place on, over any points: divided differences, and from Newton's
 // form the polynomial and its values. They know nothing of columns.
+#![tactic(auto)]
+
 ghost use Rattle.std.specs.Prelude.{◌≡◌, true, false, ◌↔◌, ℕ, ◌+◌, ◌-◌, ◌%◌, ◌≤◌, ◌<◌, length};
 ghost use Rattle.patch.specs.Patch.{patch};
 ghost use Rattle.patch.specs.Parts.{lay};

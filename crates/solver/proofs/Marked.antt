@@ -18,7 +18,6 @@ use Rattle.field.proofs.Laws.{Field}
 use Rattle.poly.specs.Poly.{All}
 use Rattle.basis.proofs.Lines.{Row, Condition, condition, conditions, unit}
 use Rattle.solver.specs.Working.Start.{all_counts, counts_of}
-use Rattle.solver.proofs.Live.{behind}
 
 pub record Run (at n k v : ℕ) : Type 0 where
   pub before : k < at → v ≡ 0

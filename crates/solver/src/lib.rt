@@ -1,4 +1,6 @@
 // The solver on a table of lines in lent memory. A line takes 768 slots: its values at the conditions, then its locator.
+#![tactic(auto)]
+
 mod first;
 pub mod scan;
 mod turns;

@@ -5,9 +5,8 @@ use mathlib.Core.List.{List}
 use Prim.Native.Nat.{ℕ, ◌≤◌}
 use native.Mathlib.Omega.{arith}
 use lib.ListN.{length, take}
-use lib.Seq.{length-take-le}
-use Rattle.patch.specs.Parts.{part, lay}
-use Rattle.patch.proofs.Parts.{part-lay, length-lay, take-lay}
+use Rattle.patch.specs.Parts.{part}
+use Rattle.patch.proofs.Parts.{part-lay, take-lay}
 use Rattle.field.proofs.Instance.{field}
 use Rattle.factors.specs.Working.{inverses}
 use Rattle.factors.proofs.Rows.{ones_divide, multiplying, multiplied_front, length-inverses, inverses_in, by_inverses}

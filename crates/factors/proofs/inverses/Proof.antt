@@ -1,7 +1,7 @@
 -- `inverses` takes the inverses, one after the other.
 -- Assumes nothing.
 use mathlib.Core.Path.{sym, ◌∙◌}
-use Prim.Native.Nat.{ℕ, ◌-◌}
+use Prim.Native.Nat.{◌-◌}
 use native.Mathlib.Omega.{arith}
 use lib.ListN.{length, get_or}
 use Rattle.patch.proofs.Loops.{Filling, filling, kept-length, filled}

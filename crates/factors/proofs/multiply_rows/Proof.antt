@@ -1,7 +1,7 @@
 -- `multiply_rows` multiplies a row after the other.
 -- Assumes nothing.
-use mathlib.Core.Path.{◌≡◌, refl, sym, subst}
-use Prim.Native.Nat.{ℕ, suc, ◌+◌, ◌-◌, ◌*◌, ◌≤◌, ◌<◌}
+use mathlib.Core.Path.{◌≡◌, subst}
+use Prim.Native.Nat.{ℕ, suc, ◌+◌, ◌-◌, ◌≤◌}
 use native.Mathlib.Nat.{suc-mul, zero-add}
 use native.Mathlib.Omega.{arith}
 use lib.ListN.{length}
@@ -9,7 +9,6 @@ use Rattle.field.proofs.Instance.{field}
 use Rattle.field.specs.Symbols.{IsSymbol}
 use Rattle.codes.proofs.Parts.{all-at}
 use Rattle.factors.proofs.Rows.{Done, first_rows, next_row, last_rows}
-use borrow.Author.Rules.{rules}
 use Rattle.factors.proofs.multiply_rows.Statement.{statement}
 use Rattle.factors.proofs.multiply_rows.Tie as tie
 

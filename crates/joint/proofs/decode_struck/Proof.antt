@@ -6,14 +6,13 @@ use mathlib.Core.List.{List, []}
 use Prim.Native.Nat.{ℕ, ◌≤◌}
 use native.Mathlib.Omega.{arith}
 use lib.ListN.{length, take}
-use Rattle.codes.specs.Code.{Code, IsArray}
+use Rattle.codes.specs.Code.{IsArray}
 use Rattle.codes.specs.Factors.{Description, description_of, divided}
 use Rattle.codes.proofs.Parts.{empty}
 use Rattle.codes.proofs.Factors.{Factors, is_divided}
 use Rattle.factors.proofs.Rows.{striking}
 use Rattle.ending.specs.Endings.{Buffers}
 use Rattle.ending.specs.declared.Ending.{Ending}
-use Rattle.ending.specs.declared.Ending.TheVariants.{Corrected}
 use Rattle.joint.specs.Promises.{buffers}
 use Rattle.joint.specs.Lost.{LostEnds}
 use Rattle.joint.specs.Working.{ReadyLost, StruckEnds}

@@ -14,5 +14,5 @@ returns c = (
 )
 
 pub least_spec : {M : Type 1} → statement M
-least_spec = tie.close (tie.spec  (λ c κs. search rules)
+least_spec = tie.close (tie.spec (λ c κs. search rules)
     returns)
