@@ -105,6 +105,7 @@ module _ (D : Description) (τ : ℕ) (y : List ℕ) (l : List (List ℕ)) (h : 
   each_once = go l in-turn
     where
       absent : (a : List ℕ) (k : List (List ℕ)) → All (λ (b : List ℕ). Earlier (place a) (place b)) k → ¬ Mem a k
+      absent a [] r x'' = elim x'' [ ]
       absent a (b ∷ k) r (inl e) =
           earlier_not (place a) (subst (λ (c : List ℕ). Earlier (place a) (place c)) (sym e) r.0)
       absent a (b ∷ k) r (inr m) = absent a k r.1 m

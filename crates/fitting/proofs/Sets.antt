@@ -32,11 +32,13 @@ module _ {A B : Type 0} where
   all_mapped P f (a ∷ l) h = (h.0, all_mapped P f l h.1)
 
   mem_mapped : (f : A → B) (a : A) (l : List A) → Mem a l → Mem (f a) (map f l)
+  mem_mapped f a [] x' = elim x' [ ]
   mem_mapped f a (b ∷ l) (inl e) = inl (ap f e)
   mem_mapped f a (b ∷ l) (inr m) = inr (mem_mapped f a l m)
 
 module _ {A : Type 0} where
   mem_left : (a : A) (l k : List A) → Mem a l → Mem a (l ++ k)
+  mem_left a [] k x' = elim x' [ ]
   mem_left a (b ∷ l) k (inl e) = inl e
   mem_left a (b ∷ l) k (inr m) = inr (mem_left a l k m)
 

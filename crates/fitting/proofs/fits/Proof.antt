@@ -29,7 +29,7 @@ told_by {c} {z} {W} {own} {r} code e h =
     subst (λ (n : ℕ). (r ≡ true) ↔ (flags_from (λ i. differs (rows c) n i z own) 0 n ≡ W)) e h in
     (λ t. record { code = code; wrong = is.0 t }, λ f. is.1 f.wrong)
 
-module _ (c : tie.After-flag-zeros) where
+module _ (c : tie.After-flag_zeros) where
   abbrev start : tie.Start
   start = c.before.before.before.before.before.before.before
 
@@ -40,22 +40,22 @@ module _ (c : tie.After-flag-zeros) where
   W = start.args.set.now
 
   abbrev marks : List ℕ
-  marks = c.flag-zeros.new.1.0
+  marks = c.flag_zeros.new.flags
 
   few : columns code ≤ 96
-  few = start.pre.checked.counts.most_columns
+  few = start.requires.checked.counts.most_columns
 
   marked : take (columns code) marks ≡ zeros_in W
-  marked = take-lay (zeros_in W) (replicate 96 0) c.flag-zeros.ensures.1 (zeros-count W ∙ start.pre.set.sized) few
+  marked = take-lay (zeros_in W) (replicate 96 0) c.flag_zeros.ensures.1 (zeros-count W ∙ start.requires.set.sized) few
 
   long : length marks ≡ 96
-  long = ap length c.flag-zeros.ensures.1 ∙ length-lay 0 (zeros_in W) (replicate 96 0)
+  long = ap length c.flag_zeros.ensures.1 ∙ length-lay 0 (zeros_in W) (replicate 96 0)
 
   count : length (take (columns code) marks) ≡ columns code
-  count = ap length marked ∙ zeros-count W ∙ start.pre.set.sized
+  count = ap length marked ∙ zeros-count W ∙ start.requires.set.sized
 
 module _ (c : tie.After-fill) where
-  abbrev flagged : tie.After-flag-zeros
+  abbrev flagged : tie.After-flag_zeros
   flagged = c.before.before.before.before
 
   abbrev begun : tie.Start
@@ -68,19 +68,19 @@ module _ (c : tie.After-fill) where
   made = filled (code flagged) z (W flagged)
 
   abbrev own : List ℕ
-  own = c.fill.new.1.1.1.1.1.1.1.0
+  own = c.fill.new.s
 
   own_long : length own ≡ 384
-  own_long = c.fill.auto.1.1.1.1.1.1.1.0 ∙ begun.pre.long
+  own_long = c.fill.auto.s ∙ begun.requires.long
 
   fits : length z ≤ 384
-  fits = omega (arith, begun.pre.received.count, begun.pre.checked.counts.cells)
+  fits = omega (arith, begun.requires.received.count, begun.requires.checked.counts.cells)
 
   front : take (length z) own ≡ made
   front = take-lay made begun.args.own.now c.fill.ensures
-      (rows-length (code flagged).degree (W flagged) (code flagged).points begun.pre.set.sized
-      (code flagged).lengths z begun.pre.received.count
-      ∙ sym begun.pre.received.count) (omega (arith, fits, begun.pre.long))
+      (rows-length (code flagged).degree (W flagged) (code flagged).points begun.requires.set.sized
+      (code flagged).lengths z begun.requires.received.count
+      ∙ sym begun.requires.received.count) (omega (arith, fits, begun.requires.long))
 
   size : length (take (length z) own) ≡ length z
   size = length-take-le (length z) own (omega (arith, fits, own_long))
@@ -89,16 +89,16 @@ module _ (c : tie.After-fill) where
       → FitsPlain (code flagged) z (W flagged) own r
   checked r t = record { long = own_long; front = front; told = t }
 
-abbrev filling : tie.After-is-code → tie.After-fill
-filling c = c.before.before.before.before
+abbrev filling : tie.After-is_code → tie.After-fill
+filling c = c.before.before.before
 
-ready : (c : tie.After-flag-zeros) → Ready (code c) (start c).args.array.now
+ready : (c : tie.After-flag_zeros) → Ready (code c) (start c).args.array.now
 ready c = let p = (start c).requires in record { counts = p.checked.counts; proper = p.checked.proper; received = p.received }
 
-pub fits-spec : {M : Type 1} → statement M
-fits-spec = tie.close (tie.spec
+pub fits_spec : {M : Type 1} → statement M
+fits_spec = tie.close (tie.spec
     (λ c. refl)
-    (λ c κs. let p = c.before.before.before.before.before.before.requires in
+    (λ c κs. let p = c.requires in
     omega (arith, p.set.sized, p.checked.counts.most_columns))
     (λ c. omega (arith, long c.before, few c.before))
     (λ c. sym (count c.before.before))
@@ -110,20 +110,20 @@ fits-spec = tie.close (tie.spec
       ),
     ))
     (λ c. let f = c.before.before in omega (arith, fits f, own_long f))
-    (λ c. sym (size c.before.before.before))
-    (λ c κs. (begun c.before.before.before).pre.checked)
+    (λ c. sym (size c.before.before))
+    (λ c κs. (begun c.before.before).requires.checked)
     (λ c. let f = filling c.before in omega (arith, fits f, own_long f))
-    (λ c. sym (size (filling c.before.before)))
-    (λ c κs. let f = filling c.before.before in let p = (begun f).pre in
+    (λ c. sym (size (filling c.before)))
+    (λ c κs. let f = filling c.before in let p = (begun f).requires in
     rw p.set.sized (record { first = p.received.count; second = size f ∙ p.received.count }))
     (λ c. search rules)
-    (λ c. let f = filling c.before.before.before in let i = c.before.before.before in
-    checked f c.wrong_exactly.result (told_by (rw (front f) at (i.is_code.ensures.0 c.before.before.if1.true))
-    (begun f).pre.set.sized (rw (front f) at c.wrong_exactly.ensures)))
+    (λ c. let f = filling c.before.before in let i = c in
+    checked f c.wrong_exactly.result (told_by (rw (front f) at (i.is_code.ensures.0 c.if-is_code.true))
+    (begun f).requires.set.sized (rw (front f) at c.wrong_exactly.ensures)))
     (λ c. search rules)
     (λ c. let f = filling c.before in
     checked f false (
       λ e. absurd (true≢false (sym e)),
       λ h. absurd (true≢false
-          (sym (c.before.is_code.ensures.1 (rw (front f) h.code)) ∙ c.if1.false)),
+          (sym (c.is_code.ensures.1 (rw (front f) h.code)) ∙ c.if-is_code.false)),
     )))

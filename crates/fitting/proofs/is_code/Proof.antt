@@ -19,7 +19,7 @@ use borrow.Author.Rules.{rules}
 use Rattle.fitting.proofs.is_code.Statement.{statement}
 use Rattle.fitting.proofs.is_code.Tie as tie
 
-module _ (c : tie.After-total) where
+module _ (c : tie.After-total-k) where
   abbrev start : tie.Start
   start = c.before.before.before.before
 
@@ -27,33 +27,33 @@ module _ (c : tie.After-total) where
   code = code_of start.args.degree start.args.points.now start.args.lengths.now
 
   few : columns code ≤ 96
-  few = start.pre.counts.most_columns
+  few = start.requires.counts.most_columns
 
   all_one : take (columns code) (replicate 96 1) ≡ ones (columns code)
   all_one = take-replicate (columns code) 96 1 few
 
-  fits : c.total.result ≤ 384
-  fits = omega (arith, c.total.ensures, start.pre.counts.fits, start.pre.counts.cells)
+  fits : c.total-k.result ≤ 384
+  fits = omega (arith, c.total-k.ensures, start.requires.counts.fits, start.requires.counts.cells)
 
   abbrev blank : List ℕ
-  blank = take c.total.result (replicate 384 0)
+  blank = take c.total-k.result (replicate 384 0)
 
-  sized : length blank ≡ c.total.result
-  sized = length-take-le c.total.result (replicate 384 0) fits
+  sized : length blank ≡ c.total-k.result
+  sized = length-take-le c.total-k.result (replicate 384 0) fits
 
 module _ (c : tie.After-read) where
-  abbrev at : tie.After-total
+  abbrev at : tie.After-total-k
   at = c.before.before.before
 
   -- what reading answers
   told : (meaning c.read.result ≡ meaning Done) ↔ CodeArray (code at) (start at).args.array.now
-  told = is_code (start at).pre (start at).args.array.now (blank at)
-      (left c.read.result c.read.new.1.1.1.1.1.0) (sized at ∙ at.total.ensures)
+  told = is_code (start at).requires (start at).args.array.now (blank at)
+      (left c.read.result c.read.new.message) (sized at ∙ at.total-k.ensures)
       (rw (all_one at) at c.read.ensures)
 
-pub is-code-spec : {M : Type 1} → statement M
-is-code-spec = tie.close (tie.spec
-    (λ c κs. c.before.before.before.requires.counts.most_rows)
+pub is_code_spec : {M : Type 1} → statement M
+is_code_spec = tie.close (tie.spec
+    (λ c κs. c.requires.counts.most_rows)
     (λ c. few c)
     (λ c. sym (length-take-le _ (replicate 96 1) (few c.before)))
     (λ c. fits c.before)
@@ -61,7 +61,7 @@ is-code-spec = tie.close (tie.spec
     (λ c κs. search rules)
     (λ c. search rules)
     (λ c. search rules)
-    (λ c. let t = told c.before.before.before in
-    (λ e. t.0 (ap meaning c.enum_told.given.1), λ a. refl))
-    (λ c. let t = told c.before.before.before in
-    (λ e. absurd (true≢false (sym e)), λ a. absurd (omega (arith, ap number_of (sym (ap meaning c.enum-told2.given.1) ∙ t.1 a))))))
+    (λ c. let t = told c.before.before in
+    (λ e. t.0 (ap meaning c.in-Done.is), λ a. refl))
+    (λ c. let t = told c.before.before in
+    (λ e. absurd (true≢false (sym e)), λ a. absurd (omega (arith, ap number_of (sym (ap meaning c.in-Refused.is) ∙ t.1 a))))))

@@ -18,12 +18,12 @@ use borrow.Author.Rules.{rules}
 use Rattle.fitting.proofs.list.Statement.{statement}
 use Rattle.fitting.proofs.list.Tie as tie
 
-abbrev invariant-loop : tie.invariant-loop
+abbrev invariant-loop : tie.invariant-loop-size
 invariant-loop degree lengths points factors array limit room₀ table none count₀ size₀ room count size =
     (size ≤ limit + 1) × (count ≤ size * 65536) × (length room ≡ length room₀)
     × Turned (description_of degree points factors lengths) array (sets_from 0 size (length points)) 0 room₀ count room
 
-abbrev decreases-loop : tie.decreases-loop
+abbrev decreases-loop : tie.decreases-loop-size
 decreases-loop degree lengths points factors array limit room₀ table none count₀ size₀ room count size = limit + 1 - size
 
 -- at first no set was tried; then those of one size more; and last all
@@ -43,8 +43,8 @@ module _ {D : Description} {z : List ℕ} (n size : ℕ) {r : ℕ} {room room' :
   at_last : (τ : ℕ) → size ≡ τ + 1 → Turned D z (sets τ n) 0 room r room'
   at_last τ e = subst (λ (i : ℕ). Turned D z (sets_from 0 i n) 0 room r room') (e ∙ add-one τ) t
 
-module _ (c : tie.In-loop invariant-loop decreases-loop) where
-  abbrev turn : tie.At-loop invariant-loop decreases-loop
+module _ (c : tie.In-loop-size invariant-loop decreases-loop) where
+  abbrev turn : tie.At-loop-size invariant-loop decreases-loop
   turn = c.before
 
   abbrev start : tie.Start invariant-loop decreases-loop
@@ -53,32 +53,32 @@ module _ (c : tie.In-loop invariant-loop decreases-loop) where
   abbrev D : Description
   D = description_of start.args.degree start.args.points.now start.args.factors.now start.args.lengths.now
 
-  small : turn.loop.size ≤ 16
-  small = omega (arith, c.loop-test.true, start.pre.limit, start.pre.few)
+  small : turn.loop-size.size ≤ 16
+  small = omega (arith, c.loop-size-test.true, start.requires.limit, start.requires.few)
 
-  few : length (sets_of turn.loop.size (columns D.code - 0)) ≤ 65536
+  few : length (sets_of turn.loop-size.size (columns D.code - 0)) ≤ 65536
   few =
-      let most : columns D.code - 0 ≤ 16 = omega (arith, start.pre.few) in
-      le_trans (few_sets turn.loop.size (columns D.code - 0)) (pow-le-pow_right {n = 2} (omega arith) most)
+      let most : columns D.code - 0 ≤ 16 = omega (arith, start.requires.few) in
+      le_trans (few_sets turn.loop-size.size (columns D.code - 0)) (pow-le-pow_right {n = 2} (omega arith) most)
 
   choosing : (none : List ℕ) → none ≡ replicate 16 0
-      → Choosing D turn.before.lend.result start.args.array.now none 0 turn.loop.size turn.loop.count
+      → Choosing D turn.lend-table.result start.args.array.now none 0 turn.loop-size.size turn.loop-size.count
   choosing none e = rw e (record {
-    quotient = start.pre.quotient;
-    table = turn.before.lend.ensures;
-    few = start.pre.few;
+    quotient = start.requires.quotient;
+    table = turn.lend-table.ensures;
+    few = start.requires.few;
     set = record { sized = refl; small = (no_columns 16).flags };
     next = omega arith;
     rest = refl;
-    room = omega (arith, (no_columns 16).many, c.loop-test.true, start.pre.limit);
-    before = omega (arith, few, small, turn.loop.inv.1);
+    room = omega (arith, (no_columns 16).many, c.loop-size-test.true, start.requires.limit);
+    before = omega (arith, few, small, turn.loop-size.invariant.1);
   })
 
-pub list-spec : {M : Type 1} → statement M
-list-spec = tie.close (tie.spec
+pub list_spec : {M : Type 1} → statement M
+list_spec = tie.close (tie.spec
     invariant-loop
     decreases-loop
-    (λ c κs. c.before.before.before.before.before.requires.quotient.checked.counts.degree)
+    (λ c κs. c.requires.quotient.checked.counts.degree)
     (λ c. (
       omega arith,
       omega arith,
@@ -89,20 +89,20 @@ list-spec = tie.close (tie.spec
     (λ c. omega (arith, small c.before.before.before.before.before))
     (λ c. search rules)
     (λ c. let r = c.before.before in let t = r.before.before.before in (
-      omega (arith, t.loop-test.true),
+      omega (arith, t.loop-size-test.true),
       omega (
         arith,
-        turned_few r.choose.ensures,
-        length-map (sets_of (turn t).loop.size (length (start t).args.points.now - 0)) (◌++◌ []),
+        turned_few r.choose-count.ensures,
+        length-map (sets_of (turn t).loop-size.size (length (start t).args.points.now - 0)) (◌++◌ []),
         few t,
-        (turn t).loop.invariant.1,
+        (turn t).loop-size.invariant.1,
       ),
-      r.choose.auto.1.1.1.1.1.1.1.1.1.1.0 ∙ (turn t).loop.invariant.2,
-      then (length (start t).args.points.now) (turn t).loop.size (turn t).loop.invariant.3 r.choose.ensures,
+      r.choose-count.auto.room ∙ (turn t).loop-size.invariant.2,
+      then (length (start t).args.points.now) (turn t).loop-size.size (turn t).loop-size.invariant.3 r.choose-count.ensures,
     ))
     (λ c. search rules)
-    (λ c. let t = c.before in let s = t.before.before.before.before.before.before.before in (
-      at_last (length s.args.points.now) t.loop.size t.loop.invariant.3 s.args.limit
-          (omega (arith, c.loop-test.false, t.loop.invariant.0)),
-      omega (arith, t.loop.invariant.0, t.loop.invariant.1, s.requires.limit, s.requires.few),
+    (λ c. let t = c in let s = t in (
+      at_last (length s.args.points.now) t.loop-size.size t.loop-size.invariant.3 s.args.limit
+          (omega (arith, c.loop-size-test.false, t.loop-size.invariant.0)),
+      omega (arith, t.loop-size.invariant.0, t.loop-size.invariant.1, s.requires.limit, s.requires.few),
     )))

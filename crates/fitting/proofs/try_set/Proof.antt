@@ -19,7 +19,7 @@ use borrow.Author.Rules.{rules}
 use Rattle.fitting.proofs.try_set.Statement.{statement}
 use Rattle.fitting.proofs.try_set.Tie as tie
 
-module _ (c : tie.After-fits2) where
+module _ (c : tie.After-fits) where
   abbrev start : tie.Start
   start = c.before.before.before.before.before.before.before.before
 
@@ -36,28 +36,28 @@ module _ (c : tie.After-fits2) where
   made = filled D.code z W
 
   abbrev own : List ℕ
-  own = c.fits2.new.1.1.1.1.1.1.0
+  own = c.fits.new.own
 
   cells : length z ≤ 384
-  cells = let q = start.pre.quotient in omega (arith, q.received.count, q.checked.counts.cells)
+  cells = let q = start.requires.quotient in omega (arith, q.received.count, q.checked.counts.cells)
 
   size : length (take (length z) own) ≡ length z
-  size = length-take-le (length z) own (omega (arith, cells, c.fits2.ensures.long))
+  size = length-take-le (length z) own (omega (arith, cells, c.fits.ensures.long))
 
-  module _ (is : c.fits2.result ≡ true) where
+  module _ (is : c.fits.result ≡ true) where
     fitting : PlainFit D.code z W made
-    fitting = c.fits2.ensures.told.0 is
+    fitting = c.fits.ensures.told.0 is
 
     made_array : IsArray D.code (take (length z) own)
-    made_array = rw c.fits2.ensures.front (code_array start.pre.quotient.checked.proper fitting.code)
+    made_array = rw c.fits.ensures.front (code_array start.requires.quotient.checked.proper fitting.code)
 
-abbrev tested : tie.Then1 → tie.After-fits2
+abbrev tested : tie.Then-fits → tie.After-fits
 tested c = c.before.before
 
-pub try-set-spec : {M : Type 1} → statement M
-try-set-spec = tie.close (tie.spec
+pub try_set_spec : {M : Type 1} → statement M
+try_set_spec = tie.close (tie.spec
     (λ c. refl)
-    (λ c κs. let p = c.before.before.before.before.before.before.before.requires in record {
+    (λ c κs. let p = c.requires in record {
       checked = p.quotient.checked;
       table = p.table;
       received = p.quotient.received;
@@ -65,25 +65,25 @@ try-set-spec = tie.close (tie.spec
       room = p.room;
       long = refl;
     })
-    (λ c. omega (arith, cells (tested c), (tested c).fits2.ensures.long))
+    (λ c. omega (arith, cells (tested c), c.fits.ensures.long))
     (λ c. sym (size (tested c.before)))
-    (λ c κs. let t = c.before.before in let f = tested t in let q = (start f).pre.quotient in record {
-      striking = striking {D = D f} q.checked.counts q.factors (made_array f t.if1.true);
+    (λ c κs. let t = c.before.before in let f = tested t in let q = (start f).requires.quotient in record {
+      striking = striking {D = D f} q.checked.counts q.factors (made_array f t.if-fits.true);
       cells = omega (arith, size f, cells f);
-      before = omega (arith, (start f).pre.before);
+      before = omega (arith, (start f).requires.before);
     })
-    (λ c. omega (arith, (start (tested c.before.before.before.before.before.before)).pre.before))
+    (λ c. omega (arith, (start (tested c.before.before.before.before.before.before)).requires.before))
     (λ c. search rules)
-    (λ c. let t = c.before.before.before.before.before.before in let f = tested t in let p = (start f).pre in record {
+    (λ c. let t = c.before.before.before.before.before.before in let f = tested t in let p = (start f).requires in record {
       arrays = multiplied (D f) (made f) ∷ [];
-      turns = one_turn p.quotient p.set p.room (fitting f t.if1.true);
+      turns = one_turn p.quotient p.set p.room (fitting f t.if-fits.true);
       total = omega arith;
-      left = rw f.fits2.ensures.front at c.before.before.before.keep.ensures
+      left = rw f.fits.ensures.front at c.keep.ensures
           ∙ sym (placed_one (start f).args.count (multiplied (D f) (made f)) (start f).args.room.now);
     })
     (λ c. let f = c.before.before in let p = (start f).requires in record {
       arrays = [];
-      turns = no_turn p.quotient p.set p.room (λ h. true≢false (sym (f.fits2.ensures.told.1 h) ∙ c.if1.false));
+      turns = no_turn p.quotient p.set p.room (λ h. true≢false (sym (f.fits.ensures.told.1 h) ∙ c.if-fits.false));
       total = omega arith;
       left = sym (placed_none (start f).args.count (start f).args.room.now);
     }))

@@ -15,11 +15,11 @@ use borrow.Author.Rules.{rules}
 use Rattle.fitting.proofs.wrong_at.Statement.{statement}
 use Rattle.fitting.proofs.wrong_at.Tie as tie
 
-abbrev invariant-loop : tie.invariant-loop
+abbrev invariant-loop : tie.invariant-loop-left
 invariant-loop rows n i a b from₀ left₀ from left =
     (from + left * n ≡ rows * n) × (differs left n i (drop from a) (drop from b) ≡ differs rows n i a b)
 
-abbrev decreases-loop : tie.decreases-loop
+abbrev decreases-loop : tie.decreases-loop-left
 decreases-loop rows n i a b from₀ left₀ from left = left
 
 -- of the rows that are left, the first and the others
@@ -48,37 +48,37 @@ unfolding differs
 none_left zero n i a b h = refl
 none_left (suc l) n i a b h = absurd (h (omega arith))
 
-module _ (c : tie.In-loop invariant-loop decreases-loop) where
-  abbrev turn : tie.At-loop invariant-loop decreases-loop
+module _ (c : tie.In-loop-left invariant-loop decreases-loop) where
+  abbrev turn : tie.At-loop-left invariant-loop decreases-loop
   turn = c.before
 
   abbrev start : tie.Start invariant-loop decreases-loop
   start = turn.before
 
-  size : turn.loop.from + start.args.i < start.args.rows * start.args.n
-  size = omega (arith, turn.loop.inv.0, cells turn.loop.left start.args.n c.loop-test.true, start.pre.1)
+  size : turn.loop-left.from + start.args.i < start.args.rows * start.args.n
+  size = omega (arith, turn.loop-left.invariant.0, cells turn.loop-left.left start.args.n c.loop-left-test.true, start.requires.1)
 
-abbrev entered : tie.Else1 invariant-loop decreases-loop → tie.In-loop invariant-loop decreases-loop
+abbrev entered : tie.Else-a-from invariant-loop decreases-loop → tie.In-loop-left invariant-loop decreases-loop
 entered c = c.before.before.before
 
-pub wrong-at-spec : {M : Type 1} → statement M
-wrong-at-spec = tie.close (tie.spec
+pub wrong_at_spec : {M : Type 1} → statement M
+wrong_at_spec = tie.close (tie.spec
     invariant-loop
     decreases-loop
     (λ c. (omega arith, refl))
     (λ c. omega (arith, size c, (start c).requires.0.first))
-    (λ c. omega (arith, size c.before, (start c.before).pre.0.first))
-    (λ c. omega (arith, size c.before, (start c.before).pre.0.first))
-    (λ c. omega (arith, size c.before.before, (start c.before.before).pre.0.second))
+    (λ c. omega (arith, size c.before, (start c.before).requires.0.first))
+    (λ c. omega (arith, size c.before, (start c.before).requires.0.first))
+    (λ c. omega (arith, size c.before.before, (start c.before.before).requires.0.second))
     (λ c. let t = c.before.before.before in
-    differ (turn t).loop.left (start t).args.n (start t).args.i (turn t).loop.from (start t).args.a.now (start t).args.b.now
-    t.loop-test.true (turn t).loop.invariant.1 c.if1.true)
+    differ (turn t).loop-left.left (start t).args.n (start t).args.i (turn t).loop-left.from (start t).args.a.now (start t).args.b.now
+    t.loop-left-test.true (turn t).loop-left.invariant.1 c.if-a-from.true)
     (λ c. let t = entered c in
-    omega (arith, (start t).pre.0.first, (turn t).loop.inv.0, cells (turn t).loop.left (start t).args.n t.loop-test.taken))
+    omega (arith, (start t).requires.0.first, (turn t).loop-left.invariant.0, cells (turn t).loop-left.left (start t).args.n t.loop-left-test.true))
     (λ c. search rules)
     (λ c. search rules)
     (λ c. let t = entered c in (
-      omega (arith, (turn t).loop.inv.0, cells (turn t).loop.left (start t).args.n t.loop-test.taken),
-      same (turn t).loop.left _ _ _ _ _ t.loop-test.taken c.if1.false ∙ (turn t).loop.inv.1,
+      omega (arith, (turn t).loop-left.invariant.0, cells (turn t).loop-left.left (start t).args.n t.loop-left-test.true),
+      same (turn t).loop-left.left _ _ _ _ _ t.loop-left-test.true c.if-a-from.false ∙ (turn t).loop-left.invariant.1,
     ))
-    (λ c. sym (ap flag (sym c.before.loop.invariant.1) ∙ none_left c.before.loop.left _ _ _ _ (λ h. omega arith))))
+    (λ c. sym (ap flag (sym c.loop-left.invariant.1) ∙ none_left c.loop-left.left _ _ _ _ (λ h. omega arith))))

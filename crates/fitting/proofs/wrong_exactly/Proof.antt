@@ -15,11 +15,11 @@ use Rattle.codes.proofs.Flags.{flags-length, flag_here}
 use Rattle.fitting.proofs.wrong_exactly.Statement.{statement}
 use Rattle.fitting.proofs.wrong_exactly.Tie as tie
 
-abbrev invariant-loop : tie.invariant-loop
+abbrev invariant-loop : tie.invariant-loop-i
 invariant-loop rows set a b n i₀ i =
     (i ≤ length set) × ((k : ℕ) → k < i → flag (differs rows (length set) k a b) ≡ get_or set k 0)
 
-abbrev decreases-loop : tie.decreases-loop
+abbrev decreases-loop : tie.decreases-loop-i
 decreases-loop rows set a b n i₀ i = length set - i
 
 -- flags that agree at every column, and that do not at one
@@ -38,8 +38,8 @@ not_right f W i q n = (
   λ e. absurd (n (sym (flag_here f (length W) i q) ∙ ap (λ (l : List ℕ). get_or l i 0) e)),
 )
 
-module _ (c : tie.In-loop invariant-loop decreases-loop) where
-  abbrev turn : tie.At-loop invariant-loop decreases-loop
+module _ (c : tie.In-loop-i invariant-loop decreases-loop) where
+  abbrev turn : tie.At-loop-i invariant-loop decreases-loop
   turn = c.before
 
   abbrev start : tie.Start invariant-loop decreases-loop
@@ -48,25 +48,25 @@ module _ (c : tie.In-loop invariant-loop decreases-loop) where
   abbrev test : ℕ → Bool
   test k = differs start.args.rows (length start.args.set.now) k start.args.a.now start.args.b.now
 
-abbrev entered : tie.After-wrong-at invariant-loop decreases-loop → tie.In-loop invariant-loop decreases-loop
+abbrev entered : tie.After-wrong_at invariant-loop decreases-loop → tie.In-loop-i invariant-loop decreases-loop
 entered c = c.before
 
-pub wrong-exactly-spec : {M : Type 1} → statement M
-wrong-exactly-spec = tie.close (tie.spec
+pub wrong_exactly_spec : {M : Type 1} → statement M
+wrong_exactly_spec = tie.close (tie.spec
     invariant-loop
     decreases-loop
     (λ c. (omega arith, λ k q. absurd (omega arith)))
-    (λ c κs. ((start c).requires, c.loop-test.true))
+    (λ c κs. ((start c).requires, c.loop-i-test.true))
     (λ c. search rules)
     (λ c. let w = c.before.before in let t = entered w in
-    not_right (test t) (start t).args.set.now (turn t).loop.i t.loop-test.taken
-    (λ e. omega (arith, c.if1.true, w.wrong_at.ensures)))
+    not_right (test t) (start t).args.set.now (turn t).loop-i.i t.loop-i-test.true
+    (λ e. omega (arith, c.if-wrong_at-set.true, w.wrong_at.ensures)))
     (λ c. search rules)
     (λ c. search rules)
     (λ c. let w = c.before.before in let t = entered w in (
-      omega (arith, t.loop-test.taken),
-      below_more _ _ (turn t).loop.inv.1 (omega (arith, c.if1.false, w.wrong_at.ensures)),
+      omega (arith, t.loop-i-test.true),
+      below_more _ _ (turn t).loop-i.invariant.1 (omega (arith, c.if-wrong_at-set.false, w.wrong_at.ensures)),
     ))
-    (λ c. let s = c.before.before.before.before.before in
+    (λ c. let s = c in
     all_right (λ k. differs s.args.rows (length s.args.set.now) k s.args.a.now s.args.b.now) s.args.set.now
-    (omega (arith, c.loop-test.false)) c.before.loop.invariant.1))
+    (omega (arith, c.loop-i-test.false)) c.loop-i.invariant.1))
