@@ -128,6 +128,7 @@ module _ (D : Description) (τ : ℕ) (y : List ℕ) (l : List (List ℕ)) (f : 
         go : (l : List (List ℕ)) → Sorted (λ (a b : List ℕ). Earlier (flags_of D.code y a) (flags_of D.code y b)) l → Distinct l
             → All (λ (b : List ℕ). CodeArrayBy D b × (wrong b ≤ τ)) l → Mem a l
             → (k : List (List ℕ)) × (l ≡ a ∷ k) × All (λ (b : List ℕ). w < wrong b) k
+        go [] s d o x4 = elim x4 [ ]
         go (b ∷ k) s d o (inl e) =
             (k, ap (λ (c : List ℕ). c ∷ k) (sym e), others k (λ m. d.0 (subst (λ (c : List ℕ). Mem c k) e m)) o.1)
         go (b ∷ k) s d o (inr m) = absurd (omega (

@@ -11,7 +11,7 @@ use borrow.Author.Rules.{rules}
 use Rattle.listing.proofs.code_refusal.Statement.{statement}
 use Rattle.listing.proofs.code_refusal.Tie as tie
 
-module _ (c : tie.After-code-refusal) where
+module _ (c : tie.After-code_refusal-k) where
   abbrev s : tie.Start
   s = c.before.before.before
 
@@ -37,15 +37,15 @@ module _ (c : tie.After-code-refusal) where
   abbrev b₁₈ : Bool
   b₁₈ = unchecked code
 
-pub code-refusal-spec : {M : Type 1} → statement M
-code-refusal-spec = tie.close (tie.spec
+pub code_refusal_spec : {M : Type 1} → statement M
+code_refusal_spec = tie.close (tie.spec
     (λ c κs. search rules)
     (λ c. let k = c.before in
-    other (b₁ k) (b₂ k) (b₃ k) (b₂₁ k) (b₄ k) (b₁₈ k) (above_sixteen (columns (code k))) k.code-refusal.ensures c.if1.true)
+    other (b₁ k) (b₂ k) (b₃ k) (b₂₁ k) (b₄ k) (b₁₈ k) (above_sixteen (columns (code k))) k.code_refusal-k.ensures c.if-k-ne3.true)
     (λ c κs. search rules)
     (λ c. let k = c.before.before.before in
-    third (b₁ k) (b₂ k) (b₃ k) (b₂₁ k) (b₄ k) (b₁₈ k) (outside 1 16 (columns (code k))) k.code-refusal.ensures
-    c.before.before.if1.false (sym c.before.outside.ensures ∙ c.if2.true))
+    third (b₁ k) (b₂ k) (b₃ k) (b₂₁ k) (b₄ k) (b₁₈ k) (outside 1 16 (columns (code k))) k.code_refusal-k.ensures
+    c.if-k-ne3.false (sym c.outside.ensures ∙ c.if-outside.true))
     (λ c. let k = c.before.before.before in
-    twenty_first (b₁ k) (b₂ k) (b₃ k) (b₂₁ k) (b₄ k) (b₁₈ k) (above_sixteen (columns (code k))) k.code-refusal.ensures
-    c.before.before.if1.false (sym c.before.outside.ensures ∙ c.if2.false)))
+    twenty_first (b₁ k) (b₂ k) (b₃ k) (b₂₁ k) (b₄ k) (b₁₈ k) (above_sixteen (columns (code k))) k.code_refusal-k.ensures
+    c.if-k-ne3.false (sym c.outside.ensures ∙ c.if-outside.false)))

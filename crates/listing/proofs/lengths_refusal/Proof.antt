@@ -25,10 +25,10 @@ not_whole_lem cells s e h = ap not (ne_eqb (length s % cells) 0 (λ z. h (ap (λ
 is_whole : (cells : ℕ) (s : List ℕ) {x : ℕ} → length s ≡ x → x % cells ≡ 0 → not_whole cells s ≡ false
 is_whole cells s e h = ap not (eq-eqb (length s % cells) 0 (ap (λ (n : ℕ). n % cells) e ∙ h))
 
-pub lengths-refusal-spec : {M : Type 1} → statement M
-lengths-refusal-spec = tie.close (tie.spec
+pub lengths_refusal_spec : {M : Type 1} → statement M
+lengths_refusal_spec = tie.close (tie.spec
     (λ c. omega (arith, cells c))
-    (λ c d s e. sym (hit _ _ _ c.if1.true))
+    (λ c d s e. sym (hit _ _ _ c.if-received-cells.true))
     (λ c. omega (arith, some c.before))
-    (λ c d s e. sym (miss _ _ _ c.before.if1.false ∙ hit _ _ _ (not_whole_lem _ s e c.if2.true)))
-    (λ c d s e. sym (miss _ _ _ c.before.if1.false ∙ miss_last _ _ (is_whole _ s e c.if2.false))))
+    (λ c d s e. sym (miss _ _ _ c.if-received-cells.false ∙ hit _ _ _ (not_whole_lem _ s e c.if-room-cells-ne0.true)))
+    (λ c d s e. sym (miss _ _ _ c.if-received-cells.false ∙ miss_last _ _ (is_whole _ s e c.if-room-cells-ne0.false))))

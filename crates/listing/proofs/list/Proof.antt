@@ -19,7 +19,7 @@ use borrow.Author.Rules.{rules}
 use Rattle.listing.proofs.list.Statement.{statement}
 use Rattle.listing.proofs.list.Tie as tie
 
-module _ (c : tie.After-list-refusal) where
+module _ (c : tie.After-list_refusal-k) where
   abbrev s : tie.Start
   s = c.before.before.before.before.before.before
 
@@ -30,8 +30,8 @@ module _ (c : tie.After-list-refusal) where
   checks = list_checks D s.args.limit s.args.received.now s.args.room.now
 
   -- the refusal is the number of the first check that applies
-  answered : c.list-refusal.result ≡ first checks
-  answered = c.list-refusal.ensures s.args.room.now refl
+  answered : c.list_refusal-k.result ≡ first checks
+  answered = c.list_refusal-k.ensures s.args.room.now refl
 
   abbrev refused : ℕ → Left
   refused k = left (Refused k) s.args.room.now
@@ -40,21 +40,21 @@ module _ (c : tie.After-list-refusal) where
   Done x = (l : List (List ℕ)) × Fitting D s.args.limit s.args.received.now l
       × (x ≡ left (Total (length l)) (written D.code l s.args.room.now))
 
-passes : (c : tie.Else1) → 0 ≡ first (checks c.before)
-passes c = sym c.if1.false ∙ answered c.before
+passes : (c : tie.Else-k-ne0) → 0 ≡ first (checks c.before)
+passes c = sym c.if-k-ne0.false ∙ answered c.before
 
-pub list-spec : {M : Type 1} → statement M
-list-spec = tie.close (tie.spec
+pub list_spec : {M : Type 1} → statement M
+list_spec = tie.close (tie.spec
     (λ c κs. search rules)
     (λ c. let k = c.before in (
-      refuses (checks k) (refused k) (Done k) (answered k) c.if1.true,
+      refuses (checks k) (refused k) (Done k) (answered k) c.if-k-ne0.true,
       λ t e. absurd (omega (arith, ap (λ (a : Answer). number_of (meaning a)) e)),
     ))
     (λ c κs. passed _ _ _ _ (passes c.before))
-    (λ c. omega (arith, c.before.before.work.ensures.1))
+    (λ c. omega (arith, c.work-total.ensures.1))
     (λ c. search rules)
-    (λ c. let w = c.before.before in let e = w.before.before in let k = e.before in let h = w.work.ensures.0 in (
-      does (checks k) (refused k) (Done k) (left (Total w.work.result) w.work.new.1.1.1.1.1.1.0) (passes e)
+    (λ c. let w = c.before.before in let e = w.before.before in let k = e.before in let h = w.work-total.ensures.0 in (
+      does (checks k) (refused k) (Done k) (left (Total w.work-total.result) w.work-total.new.room) (passes e)
           (h.arrays, h.fitting, ap₂ (λ (t : ℕ) (room : List ℕ). left (Total t) room) h.total h.left),
-      λ t is. omega (arith, w.work.ensures.1, ap (λ (a : Answer). detail_of (meaning a)) is),
+      λ t is. omega (arith, w.work-total.ensures.1, ap (λ (a : Answer). detail_of (meaning a)) is),
     )))

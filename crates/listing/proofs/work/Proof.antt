@@ -23,7 +23,7 @@ module _ (s : tie.Start) where
   y = s.args.received.now
 
   few : length y ≤ 64
-  few = let p = s.pre in
+  few = let p = s.requires in
       omega (arith, p.received.count, mul-le-mul {n₂ = 4} {m₂ = 16} p.checked.counts.most_rows p.few)
 
 module _ (c : tie.After-divide) where
@@ -31,23 +31,23 @@ module _ (c : tie.After-divide) where
   start = c.before.before.before.before.before.before.before
 
   abbrev plain : List ℕ
-  plain = take (length (y start)) c.divide.new.1.1.1.1.0
+  plain = take (length (y start)) c.divide.new.s
 
   is_quotient : plain ≡ divided (D start) (y start)
   is_quotient = c.divide.ensures
 
   quotient : IsArray (D start).code plain
-  quotient = let p = start.pre in rw is_quotient (is_divided (D start) p.checked.proper p.factors p.received)
+  quotient = let p = start.requires in rw is_quotient (is_divided (D start) p.checked.proper p.factors p.received)
 
   size : length plain ≡ length (y start)
-  size = quotient.count ∙ sym start.pre.received.count
+  size = quotient.count ∙ sym start.requires.received.count
 
-pub work-spec : {M : Type 1} → statement M
-work-spec = tie.close (tie.spec
+pub work_spec : {M : Type 1} → statement M
+work_spec = tie.close (tie.spec
     (λ c. refl)
     (λ c κs. let s = c.before.before.before.before.before.before in let p = s.requires in
     (striking {D = D s} p.checked.counts p.factors p.received, few s))
-    (λ c. omega (arith, c.before.divide.auto.1.1.1.1.0, few (start c.before)))
+    (λ c. omega (arith, c.divide.auto.s, few (start c.before)))
     (λ c. sym (size c.before.before))
     (λ c κs. let d = c.before.before.before in let p = (start d).requires in record {
       quotient = record { checked = p.checked; factors = p.factors; received = quotient d };

@@ -4,11 +4,11 @@ use borrow.Author.Rules.{rules}
 use Rattle.tray.proofs.answer_of.Statement.{statement}
 use Rattle.tray.proofs.answer_of.Tie as tie
 
-pub answer-of-spec : {M : Type 1} → statement M
-answer-of-spec = tie.close (tie.spec
+pub answer_of_spec : {M : Type 1} → statement M
+answer_of_spec = tie.close (tie.spec
     (λ c. search rules) (λ c. search rules) (λ c. search rules) (λ c. search rules) (λ c. search rules)
-    (λ c. rw c.before.ending.given.1)
-    (λ c. rw c.before.ending2.given.1)
-    (λ c. rw c.enum_told.given.1)
-    (λ c. rw c.before.ending3.given.1)
-    (λ c. rw c.before.ending4.given.1))
+    (λ c. rw c.in-Refused.is)
+    (λ c. rw c.in-Corrected.is)
+    (λ c. rw c.in-Nothing.is)
+    (λ c. rw c.in-Several.is)
+    (λ c. rw c.in-Hollow.is))

@@ -23,9 +23,9 @@ D s = description_of s.args.degree s.args.points.now s.args.factors.now s.args.l
 mark-size : (at n : ℕ) (l : List ℕ) → at + n ≤ length l → length (take (at + n - at) (drop at l)) ≡ n
 mark-size at n l fits = ap length (lent_row at n l) ∙ length_part at n l fits
 
-end-mark-requires : tie.Need-end-mark-requires
+end-mark-requires : tie.Need-end_mark-ending-requires
 end-mark-requires c κs =
-    let s = c.before.before.before.before.before.before.before.before.before.before.before in
+    let s = c.before.before.before.before.before.before.before.before.before.before in
     let a = s.args in
     let p = s.requires in
     let n = cells (D s).code in
@@ -41,20 +41,20 @@ end-mark-requires c κs =
 returns : tie.Need-returns
 returns c =
     let e = c.before.before.before.before.before.before.before.before.before in
-    let s = e.before.before.before.before.before.before.before.before.before.before.before.before in
+    let s = e.before.before.before.before.before.before.before.before.before.before.before in
     let a = s.args in
-    let k = c.before.before.before in
+    let k = c in
     let n = cells (D s).code in
-    let u = e.end_mark.new.1.1.1.1.1.1.0 in
-    let sized = e.end_mark.auto.1.1.1.1.1.1.0 ∙ mark-size (a.k * n) n a.arrays.now s.requires.array in
+    let u = e.end_mark-ending.new.array in
+    let sized = e.end_mark-ending.auto.array ∙ mark-size (a.k * n) n a.arrays.now s.requires.array in
     let long = ap length (row_back (a.k * n) n u a.arrays.now sized s.requires.array) ∙ length-lay (a.k * n) u a.arrays.now in
-    marked (D s) a.limit a.k a.received.now a.arrays.now a.flags.now a.space.now s.requires e.end_mark.result
-    e.end_mark.new.1.1.1.1.1.1.0 e.end_mark.new.1.1.1.1.1.1.1.0 k.clear_behind.new.1.0
-    c.answer-of.result c.answer-of.ensures e.end_mark.auto.1.1.1.1.1.1.0 e.end_mark.auto.1.1.1.1.1.1.1.0
-    e.end_mark.ensures (k.clear_behind.ensures ∙ ap (λ (m : ℕ). cleared_if (eqb (a.k * n + n) m) a.space.now) long)
+    marked (D s) a.limit a.k a.received.now a.arrays.now a.flags.now a.space.now s.requires e.end_mark-ending.result
+    e.end_mark-ending.new.array e.end_mark-ending.new.flags k.clear_behind.new.space
+    c.answer_of.result c.answer_of.ensures e.end_mark-ending.auto.array e.end_mark-ending.auto.flags
+    e.end_mark-ending.ensures (k.clear_behind.ensures ∙ ap (λ (m : ℕ). cleared_if (eqb (a.k * n + n) m) a.space.now) long)
 
-pub decode-mark-spec : {M : Type 1} → statement M
-decode-mark-spec = tie.close (tie.spec
+pub decode_mark_spec : {M : Type 1} → statement M
+decode_mark_spec = tie.close (tie.spec
     (λ c. search rules) (λ c. search rules) (λ c. search rules) (λ c. search rules) (λ c. search rules) (λ c. search rules)
     (λ c. search rules) (λ c. search rules) (λ c. search rules) (λ c. search rules) (λ c. search rules) (λ c. search rules)
     (λ c. search rules) (λ c. search rules) (λ c. search rules)

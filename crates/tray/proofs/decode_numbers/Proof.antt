@@ -27,12 +27,12 @@ packs e = packed (meaning e)
 abbrev tray : (d : ℕ) (ks xs fs : List ℕ) (τ : ℕ) (y s a f w : List ℕ) → GivenTray ℕ
 tray d ks xs fs τ y s a f w = given_tray (description_of d xs fs ks) τ y s (buffers a f) w
 
-abbrev invariant-loop : tie.invariant-loop
+abbrev invariant-loop : tie.invariant-loop-k
 invariant-loop d ks xs fs τ y s₀ a₀ f₀ w₀ refused marks k₀ s a f w k =
     (v : List ℕ) → Opened (code_of d xs ks) refused v w₀ → refused ≡ first (checks_tray (tray d ks xs fs τ y s₀ a₀ f₀ v))
     → Held packs (tray d ks xs fs τ y s₀ a₀ f₀ v) refused k s (buffers a f) w
 
-abbrev decreases-loop : tie.decreases-loop
+abbrev decreases-loop : tie.decreases-loop-k
 decreases-loop d ks xs fs τ y s₀ a₀ f₀ w₀ refused marks k₀ s a f w k = marks - k
 
 -- the answer of the C caller, from its two numbers
@@ -40,7 +40,7 @@ as_packed : (x : Answer) (e : Ending) → x ≡ answer_of e → 256 * x.ending +
 unfolding packed
 as_packed x e is = ap (λ (y : Answer). 256 * y.ending + y.detail) is
 
-module _ (c : tie.After-open invariant-loop decreases-loop) where
+module _ (c : tie.After-open-refused invariant-loop decreases-loop) where
   abbrev start : tie.Start invariant-loop decreases-loop
   start = c.before.before.before.before.before.before.before.before.before.before
 
@@ -53,74 +53,74 @@ module _ (c : tie.After-open invariant-loop decreases-loop) where
   g = lent start.args.space.now
 
   abbrev k : ℕ
-  k = c.open.result
+  k = c.open-refused.result
 
   number : k ≡ first (checks_tray g)
-  number = c.open.ensures.0 g.received g.lent.array g.lent.flags refl refl refl
+  number = c.open-refused.ensures.0 g.received g.lent.array g.lent.flags refl refl refl
 
 -- where the loop begins
-abbrev opening : tie.After-marks-left invariant-loop decreases-loop → tie.After-open invariant-loop decreases-loop
+abbrev opening : tie.After-marks_left-marks invariant-loop decreases-loop → tie.After-open-refused invariant-loop decreases-loop
 opening c = c.before.before.before
 
-module _ (c : tie.At-loop invariant-loop decreases-loop) where
-  abbrev o : tie.After-open invariant-loop decreases-loop
+module _ (c : tie.At-loop-k invariant-loop decreases-loop) where
+  abbrev o : tie.After-open-refused invariant-loop decreases-loop
   o = opening c.before
 
   abbrev b : Buffers
-  b = buffers c.loop.arrays c.loop.flags
+  b = buffers c.loop-k.arrays c.loop-k.flags
 
-  held : Held packs (g o) (k o) c.loop.k c.loop.answers b c.loop.space
-  held = c.loop.invariant (g o).space o.open.ensures.1 (number o)
+  held : Held packs (g o) (k o) c.loop-k.k c.loop-k.answers b c.loop-k.space
+  held = c.loop-k.invariant (g o).space o.open-refused.ensures.1 (number o)
 
-  sizes : (length c.loop.answers ≡ length (g o).answers) × (length c.loop.arrays ≡ length (g o).lent.array)
-      × (length c.loop.flags ≡ length (g o).lent.flags) × (length c.loop.space ≡ length (g o).space)
-  sizes = held_sizes packs (g o) (k o) c.loop.k c.loop.answers b c.loop.space (number o) held
+  sizes : (length c.loop-k.answers ≡ length (g o).answers) × (length c.loop-k.arrays ≡ length (g o).lent.array)
+      × (length c.loop-k.flags ≡ length (g o).lent.flags) × (length c.loop-k.space ≡ length (g o).space)
+  sizes = held_sizes packs (g o) (k o) c.loop-k.k c.loop-k.answers b c.loop-k.space (number o) held
 
 -- a turn
-module _ (t : tie.In-loop invariant-loop decreases-loop) where
-  abbrev at : tie.At-loop invariant-loop decreases-loop
+module _ (t : tie.In-loop-k invariant-loop decreases-loop) where
+  abbrev at : tie.At-loop-k invariant-loop decreases-loop
   at = t.before
 
-  among : at.loop.k < marks_of (k (o at)) (length (g (o at)).answers)
-  among = subst (λ (n : ℕ). at.loop.k < n) at.before.marks-left.ensures t.loop-test.taken
+  among : at.loop-k.k < marks_of (k (o at)) (length (g (o at)).answers)
+  among = subst (λ (n : ℕ). at.loop-k.k < n) at.marks_left-marks.ensures t.loop-k-test.true
 
-  below : at.loop.k < length at.loop.answers
-  below = let h = below_marks packs (g (o at)) (k (o at)) at.loop.k among in omega (arith, (sizes at).0)
+  below : at.loop-k.k < length at.loop-k.answers
+  below = let h = below_marks packs (g (o at)) (k (o at)) at.loop-k.k among in omega (arith, (sizes at).0)
 
-abbrev turn : tie.After-decode-mark invariant-loop decreases-loop → tie.In-loop invariant-loop decreases-loop
+abbrev turn : tie.After-decode_mark invariant-loop decreases-loop → tie.In-loop-k invariant-loop decreases-loop
 turn d = d.before.before.before.before
 
-abbrev marking : tie.After-number invariant-loop decreases-loop → tie.After-decode-mark invariant-loop decreases-loop
+abbrev marking : tie.After-number invariant-loop decreases-loop → tie.After-decode_mark invariant-loop decreases-loop
 marking c = c.before.before.before.before.before.before.before
 
-lies : (t : tie.In-loop invariant-loop decreases-loop) → let at = t.before in
-    Lies (g (o at)).description (g (o at)).limit at.loop.k (g (o at)).received (b at) at.loop.space
+lies : (t : tie.In-loop-k invariant-loop decreases-loop) → let at = t.before in
+    Lies (g (o at)).description (g (o at)).limit at.loop-k.k (g (o at)).received (b at) at.loop-k.space
 lies t =
     let at = t.before in
-    held_lies packs (g (o at)) (k (o at)) at.loop.k at.loop.answers (b at) at.loop.space (number (o at)) (held at) (among t)
+    held_lies packs (g (o at)) (k (o at)) at.loop-k.k at.loop-k.answers (b at) at.loop-k.space (number (o at)) (held at) (among t)
 
-loop-again : tie.Need-loop-preserved invariant-loop decreases-loop
+loop-again : tie.Need-loop-k-preserved invariant-loop decreases-loop
 loop-again c v e n =
     let d = marking c in
     let t = turn d in
     let at = t.before in
     let tray = lent (o at) v in
-    let b' = buffers d.decode-mark.last.1.1.1.1.1.1.1.0 d.decode-mark.last.1.1.1.1.1.1.1.1.0 in
-    let q = d.decode-mark.ensures in
-    held_next packs tray (k (o at)) at.loop.k at.loop.answers (b at) at.loop.space n (at.loop.inv v e n) (among t)
-    d.decode-mark.result b' d.decode-mark.last.1.1.1.1.1.1.1.1.1.0 q
-    c.number.result (c.number.ensures ∙ as_packed d.decode-mark.result q.ending q.answer)
+    let b' = buffers d.decode_mark.new.arrays d.decode_mark.new.flags in
+    let q = d.decode_mark.ensures in
+    held_next packs tray (k (o at)) at.loop-k.k at.loop-k.answers (b at) at.loop-k.space n (at.loop-k.invariant v e n) (among t)
+    d.decode_mark.result b' d.decode_mark.new.space q
+    c.number.result (c.number.ensures ∙ as_packed d.decode_mark.result q.ending q.answer)
 
 returns : tie.Need-returns invariant-loop decreases-loop
 returns c =
     let at = c.before.before in
-    held_last packs (g (o at)) (k (o at)) at.loop.k at.loop.answers (b at) at.loop.space (number (o at)) (held at)
-    (λ h. let h' = subst (λ (n : ℕ). at.loop.k < n) (sym at.before.marks-left.ensures) h in omega
-    (arith, c.before.loop-test.false))
+    held_last packs (g (o at)) (k (o at)) at.loop-k.k at.loop-k.answers (b at) at.loop-k.space (number (o at)) (held at)
+    (λ h. let h' = subst (λ (n : ℕ). at.loop-k.k < n) (sym at.marks_left-marks.ensures) h in omega
+    (arith, c.loop-k-test.false))
     c.outcome.result c.outcome.ensures
 
-pub decode-numbers-spec : {M : Type 1} → statement M
-decode-numbers-spec = tie.close (tie.spec
+pub decode_numbers_spec : {M : Type 1} → statement M
+decode_numbers_spec = tie.close (tie.spec
     invariant-loop
     decreases-loop
     (λ c κs. search rules)
@@ -131,7 +131,7 @@ decode-numbers-spec = tie.close (tie.spec
     (λ c. let few = (lies (turn (marking c))).few in omega arith)
     (λ c. below (turn (marking c)))
     (λ c. let few = (lies (turn (marking c))).few in omega arith)
-    (λ c. let less = (turn (marking c)).loop-test.taken in omega arith)
+    (λ c. let less = c.loop-k-test.true in omega arith)
     loop-again
     (λ c κs. search rules)
     (λ c. (sizes c.before.before).0)

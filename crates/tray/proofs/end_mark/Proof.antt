@@ -9,7 +9,7 @@ use borrow.Author.Rules.{rules}
 use Rattle.tray.proofs.end_mark.Statement.{statement}
 use Rattle.tray.proofs.end_mark.Tie as tie
 
-module _ (c : tie.After-some-outside-field) where
+module _ (c : tie.After-some_outside_field) where
   abbrev start : tie.Start
   start = c.before.before.before.before.before.before.before.before
 
@@ -19,28 +19,28 @@ module _ (c : tie.After-some-outside-field) where
   abbrev lent : Buffers
   lent = buffers start.args.array.now start.args.flags.now
 
-returns : tie.Need-returns
+returns : tie.Need-returns-then-some_outside_field
 returns c =
     let t = c.before in
     let s = start t in
-    let p = s.pre in
+    let p = s.requires in
     decoded_seven (D t) s.args.limit p.common s.args.received.now (lent t) p.received p.array p.flags
-    (sym t.some-outside-field.ensures ∙ c.if1.true)
+    (sym t.some_outside_field.ensures ∙ c.if-some_outside_field.true)
 
-returns-2 : tie.Need-returns-2
+returns-2 : tie.Need-returns
 returns-2 c =
     let t = c.before.before.before.before.before.before.before.before in
-    let w = c.before.before.before.before in
+    let w = c in
     let s = start t in
-    let p = s.pre in
+    let p = s.requires in
     decoded_by (D t) s.args.limit p.common s.args.received.now (lent t) p.received p.array p.flags
-    (sym t.some-outside-field.ensures ∙ c.before.before.before.before.before.before.before.if1.false) w.work-mark.result
-    (buffers w.work-mark.new.1.1.1.1.1.1.0 w.work-mark.new.1.1.1.1.1.1.1.0) w.work-mark.ensures
+    (sym t.some_outside_field.ensures ∙ c.if-some_outside_field.false) w.work_mark.result
+    (buffers w.work_mark.new.array w.work_mark.new.flags) w.work_mark.ensures
 
-pub end-mark-spec : {M : Type 1} → statement M
-end-mark-spec = tie.close (tie.spec
+pub end_mark_spec : {M : Type 1} → statement M
+end_mark_spec = tie.close (tie.spec
     (λ c κs. search rules)
     returns
-    (λ c κs. let t = c.before.before.before in ((start t).requires, sym t.some-outside-field.ensures ∙ c.before.before.if1.false))
+    (λ c κs. let t = c.before.before.before in ((start t).requires, sym t.some_outside_field.ensures ∙ c.if-some_outside_field.false))
     (λ c. search rules) (λ c. search rules)
     returns-2)

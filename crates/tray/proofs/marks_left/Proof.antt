@@ -11,5 +11,5 @@ none : (k m : ℕ) → ¬ (k ≡ 0) → 0 ≡ marks_of k m
 none zero m h = absurd (h refl)
 none (suc k) m h = refl
 
-pub marks-left-spec : {M : Type 1} → statement M
-marks-left-spec = tie.close (tie.spec (λ c. search rules) (λ c. none _ _ c.if1.false))
+pub marks_left_spec : {M : Type 1} → statement M
+marks_left_spec = tie.close (tie.spec (λ c. search rules) (λ c. none _ _ c.if-k-eq0.false))

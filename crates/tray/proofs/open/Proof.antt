@@ -15,26 +15,26 @@ use borrow.Author.Rules.{rules}
 use Rattle.tray.proofs.open.Statement.{statement}
 use Rattle.tray.proofs.open.Tie as tie
 
-abbrev start : tie.After-tray-refusal → tie.Start
+abbrev start : tie.After-tray_refusal-k → tie.Start
 start c = c.before.before.before.before.before
 
 abbrev described : tie.Start → Description
 described s = description_of s.args.degree s.args.points.now s.args.factors.now s.args.lengths.now
 
-number : (c : tie.After-tray-refusal) (y a f : List ℕ) → let s = (start c).args in
+number : (c : tie.After-tray_refusal-k) (y a f : List ℕ) → let s = c.args in
     length y ≡ s.received → length a ≡ s.arrays → length f ≡ s.flags
-    → c.tray-refusal.result ≡ first (tray_checks (described (start c)) s.limit s.marks y a f s.space.now)
-number c y a f p q r = c.tray-refusal.ensures y a f (start c).args.space.now p q r refl
+    → c.tray_refusal-k.result ≡ first (tray_checks (described (start c)) s.limit s.marks y a f s.space.now)
+number c y a f p q r = c.tray_refusal-k.ensures y a f c.args.space.now p q r refl
 
 -- buffers of any lengths serve to read what the checks leave
-all-passed : (c : tie.Then1) → let s = (start c.before).args in
+all-passed : (c : tie.Then-k-eq0) → let s = c.args in
     Passed (described (start c.before)) s.limit s.marks (replicate s.received 0) (replicate s.arrays 0)
     (replicate s.flags 0) s.space.now
 all-passed c =
-    let s = (start c.before).args in
+    let s = c.args in
     passed (described (start c.before)) s.limit s.marks (replicate s.received 0) (replicate s.arrays 0)
     (replicate s.flags 0) s.space.now
-    (sym c.if1.true ∙ number c.before (replicate s.received 0) (replicate s.arrays 0) (replicate s.flags 0)
+    (sym c.if-k-eq0.true ∙ number c.before (replicate s.received 0) (replicate s.arrays 0) (replicate s.flags 0)
     (length-replicate s.received 0) (length-replicate s.arrays 0) (length-replicate s.flags 0))
 
 opened_none : (c : Code) (k : ℕ) (w : List ℕ) → ¬ (k ≡ 0) → Opened c k w w
@@ -51,5 +51,5 @@ open_spec = tie.close (tie.spec
     (λ c κs. let p = all-passed c.before in (p.common.counts, p.common.proper, p.space))
     (λ c. search rules)
     (λ c. let t = c.before.before.before.before in
-    (number t.before, opened_some _ _ _ _ t.if1.true c.before.before.share.ensures))
-    (λ c. (number c.before, opened_none _ _ _ c.if1.false)))
+    (number t.before, opened_some _ _ _ _ t.if-k-eq0.true c.share.ensures))
+    (λ c. (number c.before, opened_none _ _ _ c.if-k-eq0.false)))

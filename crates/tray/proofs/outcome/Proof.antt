@@ -12,5 +12,5 @@ refuses : (k : ℕ) → ¬ (k ≡ 0) → Refused k ≡ outcome_of k
 refuses zero h = absurd (h refl)
 refuses (suc k) h = refl
 
-pub outcome-spec : {M : Type 1} → statement M
-outcome-spec = tie.close (tie.spec (λ c. search rules) (λ c. refuses _ c.if1.false))
+pub outcome_spec : {M : Type 1} → statement M
+outcome_spec = tie.close (tie.spec (λ c. search rules) (λ c. refuses _ c.if-k-eq0.false))

@@ -35,22 +35,22 @@ module _ (c : tie.After-clear) where
 
   -- the table, and the space with it, and with zeros behind it
   abbrev table : List ℕ
-  table = c.before.before.before.before.before.before.before.lend.result
+  table = c.lend-table.result
 
   abbrev w₁ : List ℕ
-  w₁ = c.before.before.before.before.store.new.1.0
+  w₁ = c.store.new.s
 
   abbrev w₂ : List ℕ
-  w₂ = c.clear.new.0
+  w₂ = c.clear.new.s
 
   laid : w₁ ≡ lay 0 table lent
-  laid = c.before.before.before.before.store.ensures
+  laid = c.store.ensures
 
   size : length table ≡ table_bytes
   size = omega arith
 
   room : table_bytes + most_inverses ≤ length lent
-  room = omega (arith, start.pre.2)
+  room = omega (arith, start.requires.2)
 
   abbrev d : ℕ
   d = start.args.degree
@@ -63,7 +63,7 @@ inverses-requires c κs =
     let o = c.before.before.before.before in
     let p = (start o).requires in
     let is = lent_row table_bytes most_inverses (w₂ o) ∙ zeros o in (
-      (p.0, p.1, c.before.before.before.before.before.before.before.before.before.before.before.lend.ensures),
+      (p.0, p.1, c.lend-table.ensures),
       (ap length is ∙ length-replicate {A = ℕ} most_inverses 0, subst (All (IsSymbol (d o))) (sym is) (symbols_zeros (d o) most_inverses)),
     )
 
@@ -73,10 +73,10 @@ module _ (c : tie.After-inverses) where
   done = c.before.before.before.before.before
 
   abbrev v : List ℕ
-  v = c.inverses.new.1.1.1.1.0
+  v = c.inverses.new.ws
 
   sized : length v ≡ most_inverses
-  sized = c.inverses.auto.1.1.1.1.0 ∙ ap length (lent_row table_bytes most_inverses (w₂ done) ∙ zeros done)
+  sized = c.inverses.auto.ws ∙ ap length (lent_row table_bytes most_inverses (w₂ done) ∙ zeros done)
       ∙ length-replicate {A = ℕ} most_inverses 0
 
   abbrev t : w₁ done ≡ lay 0 (table done) (lent done)
@@ -106,16 +106,16 @@ returns c =
     subst (Begun (code o) (lent o)) (sym (row_back table_bytes most_inverses (v i) (w₂ o) (sized i) fits))
     (record {
       shared = record {
-        room = omega (arith, long i, (start o).pre.2);
-        table = subst (IsTable (code o).degree) (sym (front i)) o.before.before.before.before.before.before.before.lend.ensures;
+        room = omega (arith, long i, (start o).requires.2);
+        table = subst (IsTable (code o).degree) (sym (front i)) o.lend-table.ensures;
         inverses = subst (Inverses (code o).degree (code o).points (largest (code o).lengths)) (sym (middle i)) i.inverses.ensures;
       };
       long = long i;
       behind = behind i;
     })
 
-pub share-spec : {M : Type 1} → statement M
-share-spec = tie.close (tie.spec
+pub share_spec : {M : Type 1} → statement M
+share_spec = tie.close (tie.spec
     (λ c κs. search rules)
     (λ c. search rules)
     (λ c κs. search rules)

@@ -26,28 +26,28 @@ front s = length-take-le table_bytes s.args.space.now (omega (arith, s.requires.
 
 module _ (c : tie.After-store) where
   abbrev start : tie.Start
-  start = c.before.before.before.before.before.before.before.before.before.before
+  start = c.before.before.before.before.before.before.before.before.before
 
   abbrev w : List ℕ
   w = start.args.space.now
 
   -- the table, copied
   abbrev table : List ℕ
-  table = c.store.new.1.0
+  table = c.store.new.s
 
   is_table : table ≡ table_of w
   is_table =
-      let long : length table ≡ table_bytes = c.store.auto.1.0 in
+      let long : length table ≡ table_bytes = c.store.auto.s in
       sym (take_all table_bytes table (omega arith))
       ∙ take-lay (take table_bytes w) (replicate table_bytes 0) c.store.ensures (front start) (omega arith)
       ∙ lent_row 0 table_bytes w
 
-decode-struck-requires : tie.Need-decode-struck-requires
+decode-struck-requires : tie.Need-decode_struck-requires
 decode-struck-requires c κs =
-    let o = c.before.before.before.before.before.before.before.before in
+    let o = c.before.before.before.before.before.before.before in
     let s = start o in
     let a = s.args in
-    let (p, good) = s.pre in
+    let (p, good) = s.requires in
     let D = description_of a.degree a.points.now a.factors.now a.lengths.now in (
       (
         ready D a.limit p.common a.received.now (buffers a.array.now a.flags.now) p.received p.array p.flags
@@ -62,24 +62,24 @@ decode-struck-requires c κs =
             λ some. subst (Inverses a.degree a.points.now (largest a.lengths.now)) (sym (lent_row table_bytes most_inverses (w o)))
                 p.shared.inverses,
           ),
-          (p.common.factors, c.before.before.before.before.all_ones.ensures.0),
+          (p.common.factors, c.all_ones.ensures.0),
         ),
       ),
     )
 
-pub work-mark-spec : {M : Type 1} → statement M
-work-mark-spec = tie.close (tie.spec
-    (λ c. sym (front c.before.before.before.before.before.before.before.before))
+pub work_mark_spec : {M : Type 1} → statement M
+work_mark_spec = tie.close (tie.spec
+    (λ c. sym (front c.before.before.before.before.before.before.before))
     (λ c. search rules)
-    (λ c κs. let size = front c.before.before.before.before.before.before.before.before.before in omega arith)
+    (λ c κs. let size = front c.before.before.before.before.before.before.before.before in omega arith)
     (λ c. search rules)
     (λ c. search rules)
     (λ c. search rules)
-    (λ c. let s = c.before.before.before.before.before.before.before.before.before.before.before.before in
+    (λ c. let s = c in
     omega (arith, s.requires.0.shared.room))
     (λ c κs. search rules)
     (λ c. search rules)
     (λ c. search rules)
     decode-struck-requires
     (λ c. search rules) (λ c. search rules)
-    (λ c. c.before.before.before.before.before.decode-struck.ensures))
+    (λ c. c.decode_struck.ensures))
