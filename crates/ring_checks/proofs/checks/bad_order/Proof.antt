@@ -8,15 +8,15 @@ use borrow.Author.Rules.{rules}
 use Rattle.ring_checks.proofs.checks.bad_order.Statement.{statement}
 use Rattle.ring_checks.proofs.checks.bad_order.Tie as tie
 
-counts : (c : tie.After-side) → Sides c.before.args.q c.side.result
-counts c = sides c.before.args.q c.side.result c.before.requires c.side.ensures
+counts : (c : tie.After-side-n) → Sides c.args.q c.side-n.result
+counts c = sides c.args.q c.side-n.result c.requires c.side-n.ensures
 
 returns : tie.Need-returns
 unfolding bad_order
-returns c = c.outside.ensures ∙ rw c.before.side.ensures
+returns c = c.outside.ensures ∙ rw c.side-n.ensures
 
-pub bad-order-spec : {M : Type 1} → statement M
-bad-order-spec =
+pub bad_order_spec : {M : Type 1} → statement M
+bad_order_spec =
     tie.close
     (tie.spec
     (λ c κs. search rules)

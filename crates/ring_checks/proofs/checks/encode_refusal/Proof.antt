@@ -5,6 +5,6 @@ use borrow.Author.Rules.{rules}
 use Rattle.ring_checks.proofs.checks.encode_refusal.Statement.{statement}
 use Rattle.ring_checks.proofs.checks.encode_refusal.Tie as tie
 
-pub encode-refusal-spec : {M : Type 1} → statement M
-encode-refusal-spec =
-    tie.close (tie.spec (λ c κs. search rules) (λ c w p. c.buffers-refusal.ensures c.before.before.args.message.now w refl p))
+pub encode_refusal_spec : {M : Type 1} → statement M
+encode_refusal_spec =
+    tie.close (tie.spec (λ c κs. search rules) (λ c w p. c.buffers_refusal.ensures c.args.message.now w refl p))

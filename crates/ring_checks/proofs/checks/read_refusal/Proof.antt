@@ -5,6 +5,6 @@ use borrow.Author.Rules.{rules}
 use Rattle.ring_checks.proofs.checks.read_refusal.Statement.{statement}
 use Rattle.ring_checks.proofs.checks.read_refusal.Tie as tie
 
-pub read-refusal-spec : {M : Type 1} → statement M
-read-refusal-spec =
-    tie.close (tie.spec (λ c κs. search rules) (λ c f p. c.buffers-refusal.ensures f c.before.before.args.word.now p refl))
+pub read_refusal_spec : {M : Type 1} → statement M
+read_refusal_spec =
+    tie.close (tie.spec (λ c κs. search rules) (λ c f p. c.buffers_refusal.ensures f c.args.word.now p refl))

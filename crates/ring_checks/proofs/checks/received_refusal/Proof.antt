@@ -16,8 +16,8 @@ use borrow.Author.Rules.{rules}
 use Rattle.ring_checks.proofs.checks.received_refusal.Statement.{statement}
 use Rattle.ring_checks.proofs.checks.received_refusal.Tie as tie
 
-counts : (c : tie.After-side) → Sides c.before.before.args.q c.side.result
-counts c = sides c.before.before.args.q c.side.result c.before.before.requires c.side.ensures
+counts : (c : tie.After-side-n) → Sides c.args.q c.side-n.result
+counts c = sides c.args.q c.side-n.result c.requires c.side-n.ensures
 
 -- the test of number 5 reads lengths alone; n is q as a count
 fifth : (q n count : ℕ) → n ≡ q → (y w f s : List ℕ) {answer flags space : ℕ} {b : Bool}
@@ -27,7 +27,7 @@ fifth : (q n count : ℕ) → n ≡ q → (y w f s : List ℕ) {answer flags spa
 fifth q n count e y w f s p r u h = rw (p, r, u, ← e) h
 
 -- where 5 does not apply, 7 is left
-module _ (c : tie.Else1) where
+module _ (c : tie.Else-received-symbols) where
   abbrev start : tie.Start
   start = c.before.before.before
 
@@ -35,20 +35,20 @@ module _ (c : tie.Else1) where
       → first (received_checks start.args.q start.args.count start.args.received.now w f s)
       ≡ first ((7 when some_outside_field start.args.q start.args.received.now) ∷ [])
   seventh w f s p r u =
-      miss _ _ _ (fifth _ _ _ c.before.side.ensures start.args.received.now w f s p r u c.if1.false)
+      miss _ _ _ (fifth _ _ _ c.side-n.ensures start.args.received.now w f s p r u c.if-received-symbols.false)
 
-returns : tie.Need-returns
+returns : tie.Need-returns-then-received-symbols
 returns c w f s p r u =
-    sym (hit 5 _ _ (fifth _ _ _ c.before.side.ensures c.before.before.before.args.received.now w f s p r u c.if1.true))
+    sym (hit 5 _ _ (fifth _ _ _ c.side-n.ensures c.args.received.now w f s p r u c.if-received-symbols.true))
 
-returns-3 : tie.Need-returns-3
+returns-3 : tie.Need-returns
 returns-3 c w f s p r u =
     sym (seventh c.before.before w f s p r u
-    ∙ miss _ _ _ (sym c.before.some-outside-field.ensures ∙ c.if2.false)
+    ∙ miss _ _ _ (sym c.some_outside_field.ensures ∙ c.if-some_outside_field.false)
     ∙ unfold first in refl)
 
-pub received-refusal-spec : {M : Type 1} → statement M
-received-refusal-spec =
+pub received_refusal_spec : {M : Type 1} → statement M
+received_refusal_spec =
     tie.close
     (tie.spec
     (λ c κs. search rules)
@@ -57,5 +57,5 @@ received-refusal-spec =
     returns
     (λ c κs. search rules)
     (λ c w f s p r u.
-    sym (seventh c.before.before w f s p r u ∙ hit 7 _ _ (sym c.before.some-outside-field.ensures ∙ c.if2.true)))
+    sym (seventh c.before.before w f s p r u ∙ hit 7 _ _ (sym c.some_outside_field.ensures ∙ c.if-some_outside_field.true)))
     returns-3)

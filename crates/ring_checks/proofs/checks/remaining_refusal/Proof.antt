@@ -8,28 +8,25 @@ use borrow.Author.Rules.{rules}
 use Rattle.ring_checks.proofs.checks.remaining_refusal.Statement.{statement}
 use Rattle.ring_checks.proofs.checks.remaining_refusal.Tie as tie
 
-abbrev start : tie.After-columns → tie.Start
-start c = c.before.before.before.before
-
 -- the message lengths and the points that are lent
-shaped : (c : tie.After-columns) → Shape (start c).args.q (start c).args.m c.before.before.side.result
-    c.before.lengths.result c.columns.result
-shaped c = shape (start c).requires.size c.before.before.side.ensures c.before.lengths.ensures c.columns.ensures
+shaped : (c : tie.After-columns-xs) → Shape c.args.q c.args.m c.side-n.result
+    c.lengths-ks.result c.columns-xs.result
+shaped c = shape c.requires.size c.side-n.ensures c.lengths-ks.ensures c.columns-xs.ensures
 
-remaining-refusal-requires : tie.Need-remaining-refusal-requires
+remaining-refusal-requires : tie.Need-remaining_refusal-requires
 remaining-refusal-requires c κs =
     let d = c.before.before in
-    let k = ring_counts (start d).args.q (start d).args.m (start d).requires.size (start d).requires.order in
+    let k = ring_counts d.args.q d.args.m d.requires.size d.requires.order in
     rw ((shaped d).lengths.is, (shaped d).points.is)
     (k.most_rows, ((k.some_columns, k.most_columns), (lengths_test 1 _ _).1 k.lengths))
 
 returns : tie.Need-returns
 returns c =
     let d = c.before.before.before in
-    rw ((shaped d).lengths.is, (shaped d).points.is) at (c.remaining-refusal.ensures (start d).args.q)
+    rw ((shaped d).lengths.is, (shaped d).points.is) at (c.remaining_refusal.ensures d.args.q)
 
-pub remaining-refusal-spec : {M : Type 1} → statement M
-remaining-refusal-spec =
+pub remaining_refusal_spec : {M : Type 1} → statement M
+remaining_refusal_spec =
     tie.close
     (tie.spec
     (λ c κs. search rules)

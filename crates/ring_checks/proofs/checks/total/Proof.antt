@@ -11,16 +11,16 @@ abbrev start : tie.After-side → tie.Start
 start c = c.before.before
 
 -- the message lengths that are lent
-ks : (c : tie.After-side) → Front c.side.result c.before.lengths.result (ring_lengths (start c).args.q (start c).args.m)
-ks c = lengths_front (start c).args.q (start c).args.m c.side.ensures c.before.lengths.ensures
+ks : (c : tie.After-side) → Front c.side.result c.lengths-ks.result (ring_lengths c.args.q c.args.m)
+ks c = lengths_front c.args.q c.args.m c.side.ensures c.lengths-ks.ensures
 
 total-requires : tie.Need-total-requires
 total-requires c κs =
     let s = start c.before in
-    rw (ks c.before).is (ring_counts s.args.q s.args.m s.pre.size s.pre.order).most_rows
+    rw (ks c.before).is (ring_counts s.args.q s.args.m s.requires.size s.requires.order).most_rows
 
-pub total-spec : {M : Type 1} → statement M
-total-spec =
+pub total_spec : {M : Type 1} → statement M
+total_spec =
     tie.close
     (tie.spec
     (λ c κs. search rules)

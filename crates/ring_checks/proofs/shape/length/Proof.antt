@@ -12,7 +12,7 @@ fits s = room s.args.q s.args.m s.args.j s.requires.size s.requires.order s.requ
 
 returns : tie.Need-returns
 unfolding ring_length
-returns c = rw (c.before.side.ensures, c.side2.ensures)
+returns c = rw (c.side.ensures, c.side-2.ensures)
 
 pub length_spec : {M : Type 1} → statement M
 length_spec =
@@ -24,6 +24,6 @@ length_spec =
     (λ c. rw c.side.ensures (fits c.before).least)
     (λ c κs. search rules)
     (λ c. search rules)
-    (λ c. rw (c.before.side.ensures, c.side2.ensures) (omega (arith, fits c.before.before)))
-    (λ c. rw (c.before.side.ensures, c.side2.ensures) (omega (arith, fits c.before.before)))
+    (λ c. rw (c.side.ensures, c.side-2.ensures) (omega (arith, fits c.before.before)))
+    (λ c. rw (c.side.ensures, c.side-2.ensures) (omega (arith, fits c.before.before)))
     returns)

@@ -11,30 +11,27 @@ use borrow.Author.Rules.{rules}
 use Rattle.ring_checks.proofs.shape.ordinates.Statement.{statement}
 use Rattle.ring_checks.proofs.shape.ordinates.Tie as tie
 
-returns : tie.Need-returns
+returns : tie.Need-returns-then-q-eq2
 unfolding numbers raised on_curve those sector plus modulus times_x times_low times flat_map
-returns c = rw c.before.before.before.before.if1.true (rw c.before.copy.ensures.1 refl)
+returns c = rw c.if-q-eq2.true (rw c.copy.ensures refl)
 
 -- the other size is 4
 four : (q : ℕ) → (q ≡ 2 → ⊥) → (q ≡ 2) ⊎ (q ≡ 4) → q ≡ 4
 four q n (inl e) = absurd (n e)
 four q n (inr e) = e
 
-abbrev other : tie.After-ys4 → tie.Else1
-other c = c.before.before.before.before
+abbrev other : tie.After-ys-else-q-eq2-2-1 → tie.Else-q-eq2
+other c = c.before.before.before.before.before
 
-returns-2 : tie.Need-returns-2
+returns-2 : tie.Need-returns-else-q-eq2
 unfolding numbers raised on_curve those sector plus modulus times_x times_low times flat_map
-returns-2 c = rw (four _ (other c).if1.false (sizes _ (other c).before.requires)) (rw c.before.copy2.ensures.1 refl)
+returns-2 c = rw (four _ c.if-q-eq2.false (sizes _ c.requires)) (rw c.copy-else-q-eq2.ensures refl)
 
-pub ordinates-spec : {M : Type 1} → statement M
-ordinates-spec =
+pub ordinates_spec : {M : Type 1} → statement M
+ordinates_spec =
     tie.close
-    (tie.spec
-    (λ c. search rules)
-    (λ c. search rules)
+    (tie.spec (λ c. search rules)
     (λ c κs. search rules)
-    (λ c. search rules)
     (λ c. search rules)
     (λ c κs. search rules)
     returns
