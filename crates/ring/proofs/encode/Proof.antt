@@ -11,20 +11,20 @@ use borrow.Author.Rules.{rules}
 use Rattle.ring.proofs.encode.Statement.{statement}
 use Rattle.ring.proofs.encode.Tie as tie
 
-abbrev start : tie.After-encode-refusal → tie.Start
+abbrev start : tie.After-encode_refusal-k → tie.Start
 start c = c.before.before.before
 
 abbrev checks : tie.Start → List Check
 checks s = encode_checks s.args.q s.args.m s.args.message.now s.args.word.now
 
 -- the refusal is the number of the first check that applies
-answered : (c : tie.After-encode-refusal) → c.encode-refusal.result ≡ first (checks (start c))
-answered c = c.encode-refusal.ensures (start c).args.word.now refl
+answered : (c : tie.After-encode_refusal-k) → c.encode_refusal-k.result ≡ first (checks (start c))
+answered c = c.encode_refusal-k.ensures c.args.word.now refl
 
-passes : (c : tie.Else1) → 0 ≡ first (checks (start c.before))
-passes c = sym c.if1.false ∙ answered c.before
+passes : (c : tie.Else-k-ne0) → 0 ≡ first (checks (start c.before))
+passes c = sym c.if-k-ne0.false ∙ answered c.before
 
-returns-2 : tie.Need-returns-2
+returns-2 : tie.Need-returns
 returns-2 c =
     let written = c.before.before in
     let clear = written.before.before in
@@ -32,12 +32,12 @@ returns-2 c =
     writes (checks s) (ring_word s.args.q s.args.m s.args.message.now) s.args.word.now (passes clear)
     written.write_word.ensures
 
-pub encode-spec : {M : Type 1} → statement M
-encode-spec =
+pub encode_spec : {M : Type 1} → statement M
+encode_spec =
     tie.close
     (tie.spec
     (λ c κs. search rules)
-    (λ c. refuses (checks (start c.before)) _ _ (answered c.before) c.if1.true)
+    (λ c. refuses (checks (start c.before)) _ _ (answered c.before) c.if-k-ne0.true)
     (λ c κs. passes c.before)
     (λ c. search rules)
     returns-2)

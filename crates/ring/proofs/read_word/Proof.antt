@@ -13,32 +13,32 @@ use Rattle.ring.proofs.read_word.Tie as tie
 passed : (s : tie.Start) → PassedReading s.args.q s.args.m s.args.word.now s.args.message.now
 passed s = reading s.args.q s.args.m s.args.word.now s.args.message.now s.requires
 
-abbrev start : tie.After-side → tie.Start
+abbrev start : tie.After-side-n → tie.Start
 start c = c.before.before.before
 
 -- the message lengths, points and array that are lent
-module _ (c : tie.After-array-of) where
-  abbrev begun : tie.After-side
+module _ (c : tie.After-array_of-array) where
+  abbrev begun : tie.After-side-n
   begun = c.before.before.before
 
   abbrev s : tie.Start
   s = start begun
 
-  shaped : Shape s.args.q s.args.m begun.side.result c.before.before.lengths.result c.before.columns.result
-  shaped = shape (passed s).ring.size begun.side.ensures c.before.before.lengths.ensures c.before.columns.ensures
+  shaped : Shape s.args.q s.args.m begun.side-n.result c.lengths-ks.result c.columns-xs.result
+  shaped = shape (passed s).ring.size begun.side-n.ensures c.lengths-ks.ensures c.columns-xs.ensures
 
-  array : Front (length s.args.word.now) c.array_of.result (take (length s.args.word.now) c.array_of.result)
-  array = array_front (passed s).word c.array_of.ensures
+  array : Front (length s.args.word.now) c.array_of-array.result (take (length s.args.word.now) c.array_of-array.result)
+  array = array_front (passed s).word c.array_of-array.ensures
 
 returns : tie.Need-returns
 returns c =
     let r = c.before.before in
     let a = r.before.before.before.before.before.before in
-    read_by (s a).requires (passed (s a)) a.array_of.ensures (left r.read.result r.read.new.1.1.1.1.1.0)
+    read_by (s a).requires (passed (s a)) a.array_of-array.ensures (left r.read.result r.read.new.message)
     (rw ((shaped a).lengths.is, (shaped a).points.is, (shaped a).factors.is) at r.read.ensures)
 
-pub read-word-spec : {M : Type 1} → statement M
-read-word-spec =
+pub read_word_spec : {M : Type 1} → statement M
+read_word_spec =
     tie.close
     (tie.spec
     (λ c κs. search rules)

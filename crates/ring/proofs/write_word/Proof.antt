@@ -19,16 +19,16 @@ use Rattle.ring.proofs.write_word.Tie as tie
 passed : (s : tie.Start) → PassedEncoding s.args.q s.args.m s.args.message.now s.args.word.now
 passed s = encoding s.args.q s.args.m s.args.message.now s.args.word.now s.requires
 
-abbrev start : tie.After-side → tie.Start
+abbrev start : tie.After-side-n → tie.Start
 start c = c.before.before.before
 
 -- the message lengths and the points that are lent, and an array as long as the word
-module _ (c : tie.After-columns) where
+module _ (c : tie.After-columns-xs) where
   abbrev begun : tie.Start
   begun = start c.before.before
 
-  shaped : Shape begun.args.q begun.args.m c.before.before.side.result c.before.lengths.result c.columns.result
-  shaped = shape (passed begun).ring.size c.before.before.side.ensures c.before.lengths.ensures c.columns.ensures
+  shaped : Shape begun.args.q begun.args.m c.side-n.result c.lengths-ks.result c.columns-xs.result
+  shaped = shape (passed begun).ring.size c.side-n.ensures c.lengths-ks.ensures c.columns-xs.ensures
 
   short : length begun.args.word.now ≤ 64
   short = omega (arith, (passed begun).word, shaped.counts)
@@ -38,7 +38,7 @@ module _ (c : tie.After-columns) where
 
 -- what the mark's encoding left in the part that it was lent, and that part in its array
 module _ (c : tie.After-encode) where
-  abbrev given : tie.After-columns
+  abbrev given : tie.After-columns-xs
   given = c.before.before.before.before.before
 
   abbrev s : tie.Start
@@ -47,16 +47,16 @@ module _ (c : tie.After-encode) where
   abbrev made : List ℕ
   made = encoded (ring_code s.args.q s.args.m) s.args.message.now
 
-  is_made : c.encode.new.1.1.1.1.1.0 ≡ made
-  is_made = encoded_by_lem (passed s) (take (length s.args.word.now) blank) (left c.encode.result c.encode.new.1.1.1.1.1.0)
+  is_made : c.encode.new.array ≡ made
+  is_made = encoded_by_lem (passed s) (take (length s.args.word.now) blank) (left c.encode.result c.encode.new.array)
       (size given ∙ (passed s).word) (rw ((shaped given).lengths.is, (shaped given).points.is, (shaped given).factors.is) at
       c.encode.ensures)
 
-  array : Front (length s.args.word.now) (c.encode.new.1.1.1.1.1.0 ++ drop (length s.args.word.now) blank) made
+  array : Front (length s.args.word.now) (c.encode.new.array ++ drop (length s.args.word.now) blank) made
   array = given_back (length s.args.word.now) (drop (length s.args.word.now) blank) is_made
       ((encoded_array (passed s)).count ∙ sym (passed s).word)
 
-to-ring-requires : tie.Need-to-ring-requires
+to-ring-requires : tie.Need-to_ring-requires
 to-ring-requires c κs =
     let e = c.before.before.before in
     let p = passed (s e) in
@@ -66,10 +66,10 @@ returns : tie.Need-returns
 returns c =
     let t = c.before.before in
     let e = t.before.before.before.before in
-    t.to-ring.ensures ∙ ap (ring_of (s e).args.q) (array e).is ∙ written (passed (s e))
+    t.to_ring.ensures ∙ ap (ring_of (s e).args.q) (array e).is ∙ written (passed (s e))
 
-pub write-word-spec : {M : Type 1} → statement M
-write-word-spec =
+pub write_word_spec : {M : Type 1} → statement M
+write_word_spec =
     tie.close
     (tie.spec
     (λ c κs. search rules)

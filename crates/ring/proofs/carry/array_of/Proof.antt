@@ -26,62 +26,62 @@ holds q {w} z size most ring is = record {
   same = λ i h. rw is (rw zero-add at (get_or-lay 0 w z i (omega (arith, ring.count)) (omega (arith, ring.count))));
 }
 
-abbrev start : tie.After-ordinates → tie.Start
+abbrev start : tie.After-ordinates-ys → tie.Start
 start c = c.before.before.before
 
-abbrev stored : tie.After-table → tie.After-ordinates
+abbrev stored : tie.After-table-1 → tie.After-ordinates-ys
 stored c = c.before.before.before.before
 
-abbrev lent : tie.After-array → tie.After-table
+abbrev lent : tie.After-array-1 → tie.After-table-1
 lent c = c.before.before.before
 
 counts : (s : tie.Start) → Sides s.args.q s.args.q
 counts s = sides s.args.q s.args.q s.requires.size refl
 
-array-share-prefix-ys : tie.Need-array-share-prefix-ys
+array-share-prefix-ys : tie.Need-slice_bounds-ys-end
 array-share-prefix-ys c =
     let d = stored c in
     let s = start d in
-    omega (arith, y_room s.args.q s.pre.size d.ordinates.result d.ordinates.ensures, s.pre.ring.count)
+    omega (arith, y_room s.args.q s.requires.size d.ordinates-ys.result d.ordinates-ys.ensures, s.requires.ring.count)
 
-given : (c : tie.After-array) → let d = stored (lent c) in let s = start d in
-    SectorsGiven s.args.q d.before.lend.result (take (length s.args.ring.now) d.ordinates.result) s.args.ring.now
+given : (c : tie.After-array-1) → let d = stored (lent c) in let s = start d in
+    SectorsGiven s.args.q d.lend-table.result (take (length s.args.ring.now) d.ordinates-ys.result) s.args.ring.now
     (replicate 64 0)
 given c =
     let d = stored (lent c) in
     let s = start d in
     record {
-      size = s.pre.size;
-      table = d.before.lend.ensures;
-      ordinates = rw s.pre.ring.count d.ordinates.ensures;
-      ring = s.pre.ring;
+      size = s.requires.size;
+      table = d.lend-table.ensures;
+      ordinates = rw s.requires.ring.count d.ordinates-ys.ensures;
+      ring = s.requires.ring;
       room = (counts s).most;
     }
 
-carry-sums-requires : tie.Need-carry-sums-requires
+carry-sums-requires : tie.Need-carry_sums-requires
 carry-sums-requires c κs =
     let t = lent c in
     let s = start (stored t) in
-    (given c, holds s.args.q (replicate 64 0) refl (counts s).most s.pre.ring t.before.before.store.ensures)
+    (given c, holds s.args.q (replicate 64 0) refl (counts s).most s.requires.ring t.store.ensures)
 
 returns : tie.Need-returns
 returns c =
     let called = c.before.before in
     let g = given called.before in
     let s = start (stored (lent called.before)) in
-    rw s.pre.ring.count
-    (summed_array s.args.q s.pre.size s.pre.ring
-    (length-take-le (s.args.q * s.args.q * s.args.q) _ (omega (arith, called.carry-sums.auto, (counts s).most)))
-    (cut_summed g called.carry-sums.ensures))
+    rw s.requires.ring.count
+    (summed_array s.args.q s.requires.size s.requires.ring
+    (length-take-le (s.args.q * s.args.q * s.args.q) _ (omega (arith, called.carry_sums.auto, (counts s).most)))
+    (cut_summed g called.carry_sums.ensures))
 
-pub array-of-spec : {M : Type 1} → statement M
-array-of-spec =
+pub array_of_spec : {M : Type 1} → statement M
+array_of_spec =
     tie.close
     (tie.spec
-    (λ c κs. (tested c.before.args.q c.before.requires.size).degree)
+    (λ c κs. (tested c.args.q c.requires.size).degree)
     (λ c κs. search rules)
     (λ c. search rules)
-    (λ c κs. let s = start c.before in omega (arith, counts s, s.pre.ring.count))
+    (λ c κs. let s = start c.before in omega (arith, counts s, s.requires.ring.count))
     array-share-prefix-ys
     (λ c. sym (length-take-le _ _ (array-share-prefix-ys c.before)))
     (λ c. search rules)

@@ -6,13 +6,13 @@ use Rattle.hermitian.proofs.Sizes.{sizes}
 use Rattle.ring.proofs.carry.sector_of.Statement.{statement}
 use Rattle.ring.proofs.carry.sector_of.Tie as tie
 
-returns : tie.Need-returns
-returns c = rw c.if1.true refl
+returns : tie.Need-returns-then-q-eq2
+returns c = rw c.if-q-eq2.true refl
 
-returns-2 : tie.Need-returns-2
+returns-2 : tie.Need-returns-else-q-eq2
 returns-2 c =
-    let four : c.before.args.q ≡ 4 = ⊎_elim (λ e. absurd (c.if1.false e)) (λ e. e) (sizes c.before.args.q c.before.requires) in
+    let four : c.args.q ≡ 4 = ⊎_elim (λ e. absurd (c.if-q-eq2.false e)) (λ e. e) (sizes c.args.q c.requires) in
     rw four refl
 
-pub sector-of-spec : {M : Type 1} → statement M
-sector-of-spec = tie.close (tie.spec returns returns-2)
+pub sector_of_spec : {M : Type 1} → statement M
+sector_of_spec = tie.close (tie.spec returns returns-2)

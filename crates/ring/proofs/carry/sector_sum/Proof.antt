@@ -30,25 +30,25 @@ four v x =
     ap₂ plus (ap₂ plus (ap₂ plus (ap (λ (k : ℕ). get_or v k 0) first ∙ sym (zero_plus _)) (ap (λ (k : ℕ). get_or v k 0) (at 1)))
     (ap (λ (k : ℕ). get_or v k 0) (at 2))) (ap (λ (k : ℕ). get_or v k 0) (at 3))
 
-is-four : (c : tie.Else1) → c.before.args.q ≡ 4
-is-four c = ⊎_elim (λ e. absurd (c.if1.false e)) (λ e. e) (sizes c.before.args.q c.before.requires.size)
+is-four : (c : tie.Else-q-eq2) → c.args.q ≡ 4
+is-four c = ⊎_elim (λ e. absurd (c.if-q-eq2.false e)) (λ e. e) (sizes c.args.q c.requires.size)
 
-room : (c : tie.Then1) → 2 * c.before.args.x + 2 ≤ length c.before.args.v.now
-room c = let h = rw c.if1.true at c.before.requires.room in omega (arith, h)
+room : (c : tie.Then-q-eq2) → 2 * c.args.x + 2 ≤ length c.args.v.now
+room c = let h = rw c.if-q-eq2.true at c.requires.room in omega (arith, h)
 
-room_4 : (c : tie.Else1) → 4 * c.before.args.x + 4 ≤ length c.before.args.v.now
-room_4 c = let h = rw (is-four c) at c.before.requires.room in omega (arith, h)
+room_4 : (c : tie.Else-q-eq2) → 4 * c.args.x + 4 ≤ length c.args.v.now
+room_4 c = let h = rw (is-four c) at c.requires.room in omega (arith, h)
 
-returns : tie.Need-returns
+returns : tie.Need-returns-then-q-eq2
 unfolding plus
-returns c = let a = c.before.before.before.args in rw c.before.before.if1.true (two a.v.now a.x)
+returns c = let a = c.args in rw c.if-q-eq2.true (two a.v.now a.x)
 
-returns-2 : tie.Need-returns-2
+returns-2 : tie.Need-returns
 unfolding plus
-returns-2 c = let e = c.before.before.before.before in rw (is-four e) (four e.before.args.v.now e.before.args.x)
+returns-2 c = let e = c.before.before.before.before in rw (is-four e) (four e.args.v.now e.args.x)
 
-pub sector-sum-spec : {M : Type 1} → statement M
-sector-sum-spec =
+pub sector_sum_spec : {M : Type 1} → statement M
+sector_sum_spec =
     tie.close
     (tie.spec
     (λ c. omega (arith, room c))
