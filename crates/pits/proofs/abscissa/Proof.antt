@@ -7,14 +7,14 @@ use borrow.Author.Rules.{rules}
 use Rattle.pits.proofs.abscissa.Statement.{statement}
 use Rattle.pits.proofs.abscissa.Tie as tie
 
-returns : tie.Need-returns
-returns c = rw c.if1.true refl
+returns : tie.Need-returns-then-q-eq2
+returns c = rw c.if-q-eq2.true refl
 
-returns-2 : tie.Need-returns-2
+returns-2 : tie.Need-returns-else-q-eq2
 returns-2 c =
-    let s = c.before in
-    let four : s.args.q ≡ 4 = ⊎_elim (λ e. absurd (c.if1.false e)) (λ e. e) (sizes s.args.q s.requires.0) in
+    let s = c in
+    let four : s.args.q ≡ 4 = ⊎_elim (λ e. absurd (c.if-q-eq2.false e)) (λ e. e) (sizes s.args.q s.requires.0) in
     rw four refl
 
-pub abscissa-spec : {M : Type 1} → statement M
-abscissa-spec = tie.close (tie.spec (λ c. search rules) (λ c. search rules) returns returns-2)
+pub abscissa_spec : {M : Type 1} → statement M
+abscissa_spec = tie.close (tie.spec (λ c. search rules) (λ c. search rules) returns returns-2)

@@ -7,23 +7,23 @@ use borrow.Author.Rules.{rules}
 use Rattle.pits.proofs.abscissas.Statement.{statement}
 use Rattle.pits.proofs.abscissas.Tie as tie
 
-abbrev invariant-loop : tie.invariant-loop
+abbrev invariant-loop : tie.invariant-loop-i
 invariant-loop q n xs₀ at i₀ xs i = Filling at n (λ i. i / q) xs₀ xs i
 
-abbrev decreases-loop : tie.decreases-loop
+abbrev decreases-loop : tie.decreases-loop-i
 decreases-loop q n xs₀ at i₀ xs i = n - i
 
-slice-write-xs : tie.Need-slice-write-xs invariant-loop decreases-loop
-slice-write-xs c = slot c.before.before.loop.invariant c.before.loop-test.true c.before.before.before.before.requires.2
+slice-write-xs : tie.Need-bounds-xs-at invariant-loop decreases-loop
+slice-write-xs c = slot c.loop-i.invariant c.loop-i-test.true c.requires.2
 
-loop-again : tie.Need-loop-preserved invariant-loop decreases-loop
-loop-again c = turn c.before.before.loop.invariant c.before.loop-test.true c.abscissa.ensures
+loop-again : tie.Need-loop-i-preserved invariant-loop decreases-loop
+loop-again c = turn c.loop-i.invariant c.loop-i-test.true c.abscissa.ensures
 
 returns : tie.Need-returns invariant-loop decreases-loop
-returns c = filled c.before.loop.invariant (omega (arith, c.loop-test.false))
+returns c = filled c.loop-i.invariant (omega (arith, c.loop-i-test.false))
 
-pub abscissas-spec : {M : Type 1} → statement M
-abscissas-spec =
+pub abscissas_spec : {M : Type 1} → statement M
+abscissas_spec =
     tie.close
     (tie.spec
     invariant-loop
@@ -35,5 +35,5 @@ abscissas-spec =
     (λ c. search rules)
     (λ c. search rules)
     loop-again
-    (λ c. kept-length c.before.loop.invariant)
+    (λ c. kept-length c.loop-i.invariant)
     returns)

@@ -11,15 +11,15 @@ use Rattle.pits.proofs.columns_twice.Tie as tie
 
 returns : tie.Need-returns
 returns c =
-    let first = c.before.before.before.before in
-    let s = first.before.before in (
-      twice_patched _ _ (replicate 128 0) (omega (arith, s.requires.1)) first.abscissas.ensures c.before.abscissas2.ensures,
-      ap length c.before.abscissas2.ensures ∙ length-patch _ _ _ _ ∙ ap length first.abscissas.ensures
+    let first = c in
+    let s = first in (
+      twice_patched _ _ (replicate 128 0) (omega (arith, s.requires.1)) first.abscissas.ensures c.abscissas-2.ensures,
+      ap length c.abscissas-2.ensures ∙ length-patch _ _ _ _ ∙ ap length first.abscissas.ensures
           ∙ length-patch 0 _ (replicate 128 0) _,
     )
 
-pub columns-twice-spec : {M : Type 1} → statement M
-columns-twice-spec =
+pub columns_twice_spec : {M : Type 1} → statement M
+columns_twice_spec =
     tie.close
     (tie.spec
     (λ c. search rules)

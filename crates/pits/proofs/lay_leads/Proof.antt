@@ -9,36 +9,36 @@ use borrow.Author.Rules.{rules}
 use Rattle.pits.proofs.lay_leads.Statement.{statement}
 use Rattle.pits.proofs.lay_leads.Tie as tie
 
-abbrev invariant-loop : tie.invariant-loop
+abbrev invariant-loop : tie.invariant-loop-j
 invariant-loop first n base by leads₀ j₀ leads j = Filling first n (λ j. base + j * by) leads₀ leads j
 
-abbrev decreases-loop : tie.decreases-loop
+abbrev decreases-loop : tie.decreases-loop-j
 decreases-loop first n base by leads₀ j₀ leads j = n - j
 
 -- in a turn: the lead is small
-small : (c : tie.In-loop invariant-loop decreases-loop) → let args = c.before.before.args in c.before.loop.j * args.by ≤ 800
+small : (c : tie.In-loop-j invariant-loop decreases-loop) → let args = c.args in c.loop-j.j * args.by ≤ 800
 small c =
-    let start = c.before.before in
-    let few : c.before.loop.j ≤ 8 = omega (arith, c.loop-test.true, start.requires.0) in
+    let start = c in
+    let few : c.loop-j.j ≤ 8 = omega (arith, c.loop-j-test.true, start.requires.0) in
     omega (arith, mul-le-mul_right start.args.by few, start.requires.2)
 
-mul-leads : tie.Need-overflow-mul-leads invariant-loop decreases-loop
+mul-leads : tie.Need-overflow_mul-leads invariant-loop decreases-loop
 mul-leads c = omega (arith, small c)
 
-add-leads : tie.Need-overflow-add-leads invariant-loop decreases-loop
-add-leads c = omega (arith, small c, c.before.before.requires)
+add-leads : tie.Need-overflow_add-leads invariant-loop decreases-loop
+add-leads c = omega (arith, small c, c.requires)
 
-mul-leads-2 : tie.Need-overflow-mul-leads-2 invariant-loop decreases-loop
+mul-leads-2 : tie.Need-offset_bounds-leads-first invariant-loop decreases-loop
 mul-leads-2 c = omega (arith, small c)
 
-loop-again : tie.Need-loop-preserved invariant-loop decreases-loop
-loop-again c = turn c.before.loop.invariant c.loop-test.true refl
+loop-again : tie.Need-loop-j-preserved invariant-loop decreases-loop
+loop-again c = turn c.loop-j.invariant c.loop-j-test.true refl
 
 returns : tie.Need-returns invariant-loop decreases-loop
-returns c = filled c.before.loop.invariant (omega (arith, c.loop-test.false))
+returns c = filled c.loop-j.invariant (omega (arith, c.loop-j-test.false))
 
-pub lay-leads-spec : {M : Type 1} → statement M
-lay-leads-spec =
+pub lay_leads_spec : {M : Type 1} → statement M
+lay_leads_spec =
     tie.close
     (tie.spec
     invariant-loop

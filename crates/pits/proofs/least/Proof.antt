@@ -14,8 +14,9 @@ all_marked j lt e = let one : get_or (replicate {A = ℕ} 8 1) j 0 ≡ 1 = get_o
 
 returns : tie.Need-returns
 returns c =
-    let (some_line, few) = c.before.before.before.requires in
+    let (some_line, few) = c.requires in
     least_found (replicate 8 1) _ _ _ some_line (λ j lt. all_marked j (omega (arith, few))) c.pivot.ensures.0 c.pivot.ensures.1
 
-pub least-spec : {M : Type 1} → statement M
-least-spec = tie.close (tie.spec (λ c. search rules) (λ c κs. search rules) returns)
+pub least_spec : {M : Type 1} → statement M
+least_spec = tie.close (tie.spec (λ c κs. search rules)
+    returns)

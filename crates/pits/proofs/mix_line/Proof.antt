@@ -9,36 +9,33 @@ use borrow.Author.Rules.{rules}
 use Rattle.pits.proofs.mix_line.Statement.{statement}
 use Rattle.pits.proofs.mix_line.Tie as tie
 
-returns : tie.Need-returns
-returns c = sym (mixed_pivot _ _ _ _ _ _ c.if1.true)
+returns : tie.Need-returns-then-j-p
+returns c = sym (mixed_pivot _ _ _ _ _ _ c.if-j-p.true)
 
-returns-2 : tie.Need-returns-2
-returns-2 c = sym (mixed-zero _ _ _ _ _ _ c.if2.true)
+returns-2 : tie.Need-returns-then-ds-j-eq0
+returns-2 c = sym (mixed-zero _ _ _ _ _ _ c.if-ds-j-eq0.true)
 
 -- where the quotient is known
-abbrev other : tie.After-quotient-from → tie.Else2
+abbrev other : tie.After-quotient_from-c → tie.Else-ds-j-eq0
 other c = c.before.before.before
 
-abbrev start : tie.After-quotient-from → tie.Start
-start c = (other c).before.before.before.before.before
-
-add-times-requires : tie.Need-add-times-requires
+add-times-requires : tie.Need-add_times-requires
 add-times-requires c κs =
-    let made = c.before in
-    let args = (start made).args in
-    let pre = (start made).requires in
+    let made = c in
+    let args = made.args in
+    let pre = made.requires in
     let quotient = (field _ pre.lent.degree).over_in (get_or args.ds.now args.j 0) (get_or args.ds.now args.p 0) in
-    ((pre.lent.degree, pre.lent.table, omega (arith, made.quotient-from.ensures, quotient)), pre.room)
+    ((pre.lent.degree, pre.lent.table, omega (arith, made.quotient_from-c.ensures, quotient)), pre.room)
 
-returns-3 : tie.Need-returns-3
+returns-3 : tie.Need-returns
 returns-3 c =
-    let added = c.before.before in
-    let made = added.before.before in
-    sym (mixed_other _ _ _ _ _ _ (other made).before.before.if1.false (other made).if2.false made.quotient-from.ensures
+    let added = c in
+    let made = added in
+    sym (mixed_other _ _ _ _ _ _ made.if-j-p.false made.if-ds-j-eq0.false made.quotient_from-c.ensures
     added.add_times.ensures)
 
-pub mix-line-spec : {M : Type 1} → statement M
-mix-line-spec =
+pub mix_line_spec : {M : Type 1} → statement M
+mix_line_spec =
     tie.close
     (tie.spec
     returns

@@ -11,50 +11,47 @@ use borrow.Author.Rules.{rules}
 use Rattle.pits.proofs.mix_lines.Statement.{statement}
 use Rattle.pits.proofs.mix_lines.Tie as tie
 
-abbrev invariant-loop : tie.invariant-loop
+abbrev invariant-loop : tie.invariant-loop-j
 invariant-loop table degree ds p w lines slots₀ j₀ slots j = (j ≤ lines) × (slots ≡ lines_mixed degree ds p w j slots₀)
 
-abbrev decreases-loop : tie.decreases-loop
+abbrev decreases-loop : tie.decreases-loop-j
 decreases-loop table degree ds p w lines slots₀ j₀ slots j = lines - j
 
-loop-holds : tie.Need-loop-init invariant-loop decreases-loop
+loop-holds : tie.Need-loop-j-init invariant-loop decreases-loop
 loop-holds c = (search rules, sym (lines_none _ _ _ _ _))
 
-abbrev start : tie.At-loop invariant-loop decreases-loop → tie.Start invariant-loop decreases-loop
-start c = c.before.before.before
+long : (c : tie.At-loop-j invariant-loop decreases-loop) → length c.loop-j.slots ≡ length c.args.slots.now
+long c = ap length c.loop-j.invariant.1 ∙ length-lines _ _ _ _ _ _
 
-long : (c : tie.At-loop invariant-loop decreases-loop) → length c.loop.slots ≡ length (start c).args.slots.now
-long c = ap length c.loop.invariant.1 ∙ length-lines _ _ _ _ _ _
-
-mix-line-requires : tie.Need-mix-line-requires invariant-loop decreases-loop
+mix-line-requires : tie.Need-mix_line-requires invariant-loop decreases-loop
 mix-line-requires c κs =
     let turn = c.before.before in
-    let below = c.before.loop-test.true in
-    let args = (start turn).args in
-    let pre = (start turn).requires in
+    let below = c.loop-j-test.true in
+    let args = turn.args in
+    let pre = turn.requires in
     record {
       lent = pre.lent;
       pivot = omega (arith, pre.pivot, pre.few);
       line = omega (arith, below, pre.few);
-      value = pre.values turn.loop.j below;
+      value = pre.values turn.loop-j.j below;
       divisor = pre.values args.p pre.pivot;
       nonzero = pre.nonzero;
-      room = omega (arith, long turn, pre.room, line_below (length args.w.now) args.lines turn.loop.j below);
+      room = omega (arith, long turn, pre.room, line_below (length args.w.now) args.lines turn.loop-j.j below);
     }
 
-loop-again : tie.Need-loop-preserved invariant-loop decreases-loop
+loop-again : tie.Need-loop-j-preserved invariant-loop decreases-loop
 loop-again c =
-    let called = c.before.before in
-    let inside = called.before.before in
-    (omega (arith, inside.loop-test.true), lines_more _ _ _ _ _ _ inside.before.loop.invariant.1 called.mix-line.ensures)
+    let called = c in
+    let inside = called in
+    (omega (arith, inside.loop-j-test.true), lines_more _ _ _ _ _ _ inside.loop-j.invariant.1 called.mix_line.ensures)
 
 returns : tie.Need-returns invariant-loop decreases-loop
 returns c =
-    let whole : c.before.loop.j ≡ (start c.before).args.lines = omega arith in
-    rw (← whole) c.before.loop.invariant.1
+    let whole : c.loop-j.j ≡ c.args.lines = omega arith in
+    rw (← whole) c.loop-j.invariant.1
 
-pub mix-lines-spec : {M : Type 1} → statement M
-mix-lines-spec =
+pub mix_lines_spec : {M : Type 1} → statement M
+mix_lines_spec =
     tie.close
     (tie.spec
     invariant-loop

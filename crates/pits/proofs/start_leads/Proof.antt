@@ -14,23 +14,23 @@ module _ (s : tie.Start) where
   counts = sides s.args.q s.args.q s.requires.0 refl
 
   low : s.args.m ≤ 63
-  low = (room s.args.q s.args.m 0 s.pre.0 s.pre.1 counts.some).most
+  low = (room s.args.q s.args.m 0 s.requires.0 s.requires.1 counts.some).most
 
-lay-leads-requires : tie.Need-lay-leads-requires
+lay-leads-requires : tie.Need-lay_leads-requires
 lay-leads-requires c κs =
     let s = c.before in
     (omega (arith, (counts s).side), omega (arith, low s), omega (arith, (counts s).side))
 
-lay-leads-requires-2 : tie.Need-lay-leads-requires-2
+lay-leads-requires-2 : tie.Need-lay_leads-requires-2
 lay-leads-requires-2 c κs =
     let s = c.before.before.before in
     (omega (arith, (counts s).side), omega arith, omega (arith, (counts s).side))
 
 returns : tie.Need-returns
-returns c = leads_made _ _ _ c.before.before.lay-leads.ensures c.lay-leads2.ensures
+returns c = leads_made _ _ _ c.lay_leads.ensures c.lay_leads-2.ensures
 
-pub start-leads-spec : {M : Type 1} → statement M
-start-leads-spec =
+pub start_leads_spec : {M : Type 1} → statement M
+start_leads_spec =
     tie.close
     (tie.spec
     (λ c. search rules)

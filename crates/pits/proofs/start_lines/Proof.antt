@@ -27,31 +27,31 @@ module _ (s : tie.Start) where
   r = s.args.ring.now
 
   counts : Sides s.args.q s.args.q
-  counts = sides s.args.q s.args.q s.pre.size refl
+  counts = sides s.args.q s.args.q s.requires.size refl
 
   size : length r ≤ 64
-  size = omega (arith, s.pre.ring.count, counts.most)
+  size = omega (arith, s.requires.ring.count, counts.most)
 
   narrow : length ys ≤ 128
-  narrow = omega (arith, s.pre.wide, counts.most)
+  narrow = omega (arith, s.requires.wide, counts.most)
 
   all_room : length ys * (q + q) ≤ length s.args.slots.now
-  all_room = rw (s.pre.wide, s.pre.long) (lines_room q s.pre.size r s.pre.ring)
+  all_room = rw (s.requires.wide, s.requires.long) (lines_room q s.requires.size r s.requires.ring)
 
 store-requires : tie.Need-store-requires
 store-requires c κs = omega (arith, size c.before.before.before.before)
 
-abbrev stored : tie.After-lay-lines-arg → tie.After-store
+abbrev stored : tie.After-lay_lines-arg-1 → tie.After-store
 stored c = c.before.before.before
 
 abbrev begun : tie.After-store → tie.Start
 begun c = c.before.before.before.before.before
 
-lay-lines-requires : tie.Need-lay-lines-requires
+lay-lines-requires : tie.Need-lay_lines-requires
 lay-lines-requires c κs =
     let s = begun (stored c) in
-    let pre = s.pre in
-    let e = (stored c).store.ensures in
+    let pre = s.requires in
+    let e = c.store.ensures in
     let less : 0 + q s ≤ q s + q s = omega arith in
     record {
       lent = pre.lent;
@@ -63,21 +63,21 @@ lay-lines-requires c κs =
       room = omega (arith, all_room s, mul-le-mul_left (length (ys s)) less);
     }
 
-abbrev first : tie.After-v → tie.After-lay-lines
+abbrev first : tie.After-v-1 → tie.After-lay_lines
 first c = c.before.before.before.before
 
 clear-requires : tie.Need-clear-requires
 clear-requires c κs = omega (arith, size (begun (stored (first c).before)))
 
-abbrev cleared : tie.After-lay-lines-arg2 → tie.After-clear
+abbrev cleared : tie.After-lay_lines-arg-2-1 → tie.After-clear
 cleared c = c.before.before.before
 
-lay-lines-requires-2 : tie.Need-lay-lines-requires-2
+lay-lines-requires-2 : tie.Need-lay_lines-requires-2
 lay-lines-requires-2 c κs =
     let made = first (cleared c).before in
     let s = begun (stored made.before) in
-    let pre = s.pre in
-    let e = (cleared c).clear.ensures in
+    let pre = s.requires in
+    let e = c.clear.ensures in
     record {
       lent = pre.lent;
       narrow = narrow s;
@@ -85,25 +85,25 @@ lay-lines-requires-2 c κs =
       factors = pre.factors;
       symbols = rw e (line_N_in (q s) pre.size (r s) pre.ring (ys s) pre.wide);
       few = omega (arith, (counts s).side);
-      room = omega (arith, all_room s, ap length made.lay-lines.ensures ∙ length-lines _ _ _ _ _ _);
+      room = omega (arith, all_room s, ap length made.lay_lines.ensures ∙ length-lines _ _ _ _ _ _);
     }
 
-abbrev last : tie.After-slice-known3 → tie.After-lay-lines2
+abbrev last : tie.After-slice_known-3-1 → tie.After-lay_lines-2
 last c = c.before.before.before
 
 -- what both make of the slots
-made : (c : tie.After-lay-lines2) → let s = begun (stored (first (cleared c.before).before).before) in
-    c.lay-lines2.new.1.1.1.1.1.1.0 ≡ start_laid (q s) (ys s) (r s) s.args.slots.now
+made : (c : tie.After-lay_lines-2) → let s = begun (stored (first (cleared c.before).before).before) in
+    c.lay_lines-2.new.slots ≡ start_laid (q s) (ys s) (r s) s.args.slots.now
 made c =
     let wiped = cleared c.before in
     let lines = first wiped.before in
-    start_made _ _ _ _ (stored lines.before).store.ensures lines.lay-lines.ensures wiped.clear.ensures c.lay-lines2.ensures
+    start_made _ _ _ _ lines.store.ensures lines.lay_lines.ensures wiped.clear.ensures c.lay_lines-2.ensures
 
-same_length : tie.Need-same-length
+same_length : tie.Need-shape_of-slots
 same_length c = ap length (made (last c)) ∙ length_start _ _ _ _
 
-pub start-lines-spec : {M : Type 1} → statement M
-start-lines-spec =
+pub start_lines_spec : {M : Type 1} → statement M
+start_lines_spec =
     tie.close
     (tie.spec
     (λ c. search rules)

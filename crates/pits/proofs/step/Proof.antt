@@ -18,10 +18,10 @@ use Rattle.pits.proofs.step.Tie as tie
 -- the values at the condition
 module _ (c : tie.After-heads) where
   abbrev begun : tie.Start
-  begun = c.before.before.before.before.before
+  begun = c.before.before.before.before
 
   abbrev values : List ℕ
-  values = c.heads.new.1.1.1.1.0
+  values = c.heads.new.ds
 
   eight : length values ≡ 8
   eight = ap length c.heads.ensures ∙ length-patch _ _ _ _
@@ -33,43 +33,42 @@ module _ (c : tie.After-heads) where
   unfolding heads
   read = c.heads.ensures
 
-pivot-requires : tie.Need-pivot-requires
+pivot-requires : tie.Need-pivot-p-requires
 pivot-requires c κs =
     let made = c.before.before.before in
     (omega (arith, eight made, (begun made).requires.laid.few), search rules)
 
-abbrev start : tie.After-pivot → tie.After-heads
+abbrev start : tie.After-pivot-p → tie.After-heads
 start c = c.before.before.before.before
 
 -- the pivot that is found
-module _ (c : tie.Then1) where
+module _ (c : tie.Then-p-lines) where
   abbrev entered : tie.Start
   entered = begun (start c.before)
 
-  pivot_is : first_lowest (those (start c.before)) entered.args.leads.now entered.args.lines ≡ some c.before.pivot.result
-  pivot_is = pivot_some _ _ _ _ (read (start c.before)) c.before.pivot.ensures.1 c.if1.true
+  pivot_is : first_lowest (those (start c.before)) entered.args.leads.now entered.args.lines ≡ some c.pivot-p.result
+  pivot_is = pivot_some _ _ _ _ (read (start c.before)) c.pivot-p.ensures.1 c.if-p-lines.true
 
 turn-requires : tie.Need-turn-requires
 turn-requires c κs =
     let then = c.before.before in
     let s = entered then in
-    turning _ _ _ _ (s.args.leads.now, s.args.slots.now) _ s.pre.laid s.pre.here (read (start then.before)) _
+    turning _ _ _ _ (s.args.leads.now, s.args.slots.now) _ s.requires.laid s.requires.here (read (start then.before)) _
     (pivot_is then)
 
-abbrev turned-at : tie.After-leads → tie.After-turn
-turned-at c = c.before.before.before
+abbrev turned-at : tie.After-leads-1 → tie.After-turn
+turned-at c = c.before.before.before.before
 
-abbrev found_at : tie.After-turn → tie.Then1
+abbrev found_at : tie.After-turn → tie.Then-p-lines
 found_at c = c.before.before.before
 
-small : (c : tie.After-leads) → let s = entered (found_at (turned-at c)) in
-    let p = (found_at (turned-at c)).before.pivot.result in (get_or s.args.leads.now p 0 ≤ 65535) × (s.args.lines ≤ 8) × (p < 8)
+small : (c : tie.After-leads-1-unread) → let p = c.pivot-p.result in
+    (get_or c.args.leads.now p 0 ≤ 65535) × (c.args.lines ≤ 8) × (p < 8)
 small c =
-    let then = found_at (turned-at c) in
-    let pre = (entered then).pre in
-    (pre.low _ then.if1.taken, pre.laid.few, omega (arith, then.if1.taken, pre.laid.few))
+    let pre = c.requires in
+    (pre.low _ c.if-p-lines.true, pre.laid.few, omega (arith, c.if-p-lines.true, pre.laid.few))
 
-returns : tie.Need-returns
+returns : tie.Need-returns-then-p-lines
 returns c =
     let made = turned-at c in
     let then = found_at made in
@@ -77,11 +76,11 @@ returns c =
     sym (stepped_some _ _ _ _ (s.args.leads.now, s.args.slots.now) (read (start then.before)) _ (pivot_is then)
     made.turn.ensures)
 
-returns-2 : tie.Need-returns-2
+returns-2 : tie.Need-returns-else-p-lines
 returns-2 c =
     let s = begun (start c.before) in
     sym (stepped_none _ _ _ _ (s.args.leads.now, s.args.slots.now)
-    (pivot_none _ _ _ _ (read (start c.before)) c.before.pivot.ensures.1 c.if1.false))
+    (pivot_none _ _ _ _ (read (start c.before)) c.pivot-p.ensures.1 c.if-p-lines.false))
 
 pub step_spec : {M : Type 1} → statement M
 step_spec =

@@ -11,10 +11,10 @@ use Rattle.pits.proofs.twice.Tie as tie
 
 returns : tie.Need-returns
 returns c =
-    let first = c.before.before.before.before in
-    let s = first.before.before.before in (
-      twice_laid _ (replicate 128 0) (omega (arith, s.requires)) first.store.ensures c.before.store2.ensures,
-      ap length c.before.store2.ensures ∙ length-lay _ _ _ ∙ ap length first.store.ensures ∙ length-lay 0 _ (replicate 128 0),
+    let first = c in
+    let s = first in (
+      twice_laid _ (replicate 128 0) (omega (arith, s.requires)) first.store.ensures c.store-2.ensures,
+      ap length c.store-2.ensures ∙ length-lay _ _ _ ∙ ap length first.store.ensures ∙ length-lay 0 _ (replicate 128 0),
     )
 
 pub twice_spec : {M : Type 1} → statement M

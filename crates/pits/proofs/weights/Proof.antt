@@ -19,21 +19,21 @@ module _ (s : tie.Start) where
   n = length s.args.ring.now
 
   counts : Sides s.args.q s.args.q
-  counts = sides s.args.q s.args.q s.pre.size refl
+  counts = sides s.args.q s.args.q s.requires.size refl
 
   few : n ≤ 64
-  few = omega (arith, s.pre.ring.count, counts.most)
+  few = omega (arith, s.requires.ring.count, counts.most)
 
   ones_long : length (take n (replicate {A = ℕ} 64 1)) ≡ n
   ones_long = length-take-le n (replicate 64 1) few
 
 abbrev start : tie.After-solve → tie.Start
-start c = c.before.before.before.before.before.before.before
+start c = c.before.before.before.before.before.before.before.before
 
 solve-requires : tie.Need-solve-requires
 solve-requires c κs =
     let s = c.before.before.before.before.before.before in
-    record { given = s.requires; flags = ones_long s ∙ s.requires.ring.count; eight = refl; long = refl }
+    record { given = s.requires; flags = ones_long s.before ∙ s.requires.ring.count; eight = refl; long = refl }
 
 least-requires : tie.Need-least-requires
 least-requires c κs =
@@ -49,42 +49,41 @@ module _ (c : tie.After-least) where
   s₀ = start solved
 
   abbrev slots : List ℕ
-  slots = solved.solve.last.1.1.1.1.1.1.1.1.0
+  slots = solved.solve.new.slots
 
   room : 2 * n s₀ * c.least.result + n s₀ + n s₀ ≤ 1024
-  room = weights_room s₀.args.q s₀.args.m s₀.args.ring.now s₀.pre.size s₀.pre.ring c.least.result
+  room = weights_room s₀.args.q s₀.args.m s₀.args.ring.now s₀.requires.size s₀.requires.ring c.least.result
       c.least.ensures.below
 
-part-store-end : tie.Need-slice-bounds-store-end
-part-store-end c = omega (arith, room c.before, (solved c.before).solve.ensures.1)
+part-store-end : tie.Need-slice_bounds-store-end
+part-store-end c = omega (arith, room c, (solved c).solve.ensures.1)
 
 store-requires : tie.Need-store-requires
 store-requires c κs =
-    let least = c.before.before.before in
+    let least = c.before.before in
     let s = s₀ least in
     omega (
       arith,
       few s,
-      weights_long _ s.args.m _ s.pre.size s.pre.ring (slots least) (solved least).solve.ensures.1 least.least.result
+      weights_long _ s.args.m _ s.requires.size s.requires.ring (slots least) (solved least).solve.ensures.1 least.least.result
           least.least.ensures.below,
     )
 
 returns : tie.Need-returns
 returns c =
     let stored = c.before in
-    let least = stored.before.before.before.before in
+    let least = stored.before.before.before in
     let s = s₀ least in (
-      weighed _ _ _ s.pre.size s.pre.ring _ (solved least).solve.ensures.1 _ least.least.ensures.below _
+      weighed _ _ _ s.requires.size s.requires.ring _ (solved least).solve.ensures.1 _ least.least.ensures.below _
           (solved least).solve.ensures.0 least.least.ensures stored.store.ensures,
       ap length stored.store.ensures ∙ length-lay 0 _ (replicate 64 0),
     )
 
-pub weights-spec : {M : Type 1} → statement M
-weights-spec =
+pub weights_spec : {M : Type 1} → statement M
+weights_spec =
     tie.close
     (tie.spec
-    (λ c. few c.before.before.before)
-    (λ c. sym (ones_long c.before.before.before.before))
+    (λ c. few c.before.before.before.before)
     (λ c. search rules)
     solve-requires
     (λ c. omega (arith, few (start c.before)))
@@ -94,7 +93,7 @@ weights-spec =
     (λ c. omega (arith, room c))
     (λ c. omega (arith, room c))
     (λ c. search rules)
-    (λ c. omega (arith, room c.before, (solved c.before).solve.ensures.1))
+    (λ c. omega (arith, room c, (solved c).solve.ensures.1))
     part-store-end
     (λ c. search rules)
     store-requires
