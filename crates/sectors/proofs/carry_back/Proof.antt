@@ -8,18 +8,18 @@ use borrow.Author.Rules.{rules}
 use Rattle.sectors.proofs.carry_back.Statement.{statement}
 use Rattle.sectors.proofs.carry_back.Tie as tie
 
-to-ring-requires : tie.Need-to-ring-requires
+to-ring-requires : tie.Need-to_ring-requires
 to-ring-requires c κs =
-    let p = c.before.before.before.before.before.requires in
-    record { size = p.size; array = p.array _ c.before.enum-told2.given.1; room = p.room }
+    let p = c.requires in
+    record { size = p.size; array = p.array _ c.before.in-Corrected.is; room = p.room }
 
-returns-2 : tie.Need-returns-2
+returns-2 : tie.Need-returns-in-Corrected
 returns-2 c f =
     let carried = c.before.before in
-    rw carried.before.before.enum-told2.given.1 (ap (λ (w : List ℕ). buffers w f) carried.to-ring.ensures)
+    rw carried.before.before.in-Corrected.is (ap (λ (w : List ℕ). buffers w f) carried.to_ring.ensures)
 
-pub carry-back-spec : {M : Type 1} → statement M
-carry-back-spec =
+pub carry_back_spec : {M : Type 1} → statement M
+carry_back_spec =
     tie.close
     (tie.spec
     (λ c. search rules)
@@ -28,9 +28,9 @@ carry-back-spec =
     (λ c. search rules)
     (λ c. search rules)
     (λ c. search rules)
-    (λ c f. rw c.enum_told.given.1)
+    (λ c f. rw c.in-Refused.is)
     (λ c. search rules)
     returns-2
-    (λ c f. rw c.enum-told3.given.1)
-    (λ c f. rw c.enum-told4.given.1)
-    (λ c f. rw c.enum-told5.given.1))
+    (λ c f. rw c.in-Nothing.is)
+    (λ c f. rw c.in-Several.is)
+    (λ c f. rw c.in-Hollow.is))

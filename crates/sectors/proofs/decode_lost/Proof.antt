@@ -13,7 +13,7 @@ use borrow.Author.Rules.{rules}
 use Rattle.sectors.proofs.decode_lost.Statement.{statement}
 use Rattle.sectors.proofs.decode_lost.Tie as tie
 
-abbrev start : tie.After-lost-refusal → tie.Start
+abbrev start : tie.After-lost_refusal-k → tie.Start
 start c = c.before.before.before.before.before.before
 
 abbrev lent : tie.Start → Buffers
@@ -24,11 +24,11 @@ checks s = checks_lost s.args.lost.now s.args.q s.args.m s.args.limit s.args.rec
     s.args.space.now
 
 -- the refusal is the number of the first check that applies
-answered : (c : tie.After-lost-refusal) → c.lost-refusal.result ≡ first (checks (start c))
-answered c = let a = (start c).args in c.lost-refusal.ensures a.answer.now a.flags.now a.space.now refl refl refl
+answered : (c : tie.After-lost_refusal-k) → c.lost_refusal-k.result ≡ first (checks (start c))
+answered c = let a = c.args in c.lost_refusal-k.ensures a.answer.now a.flags.now a.space.now refl refl refl
 
-passes : (c : tie.Else1) → 0 ≡ first (checks (start c.before))
-passes c = sym c.if1.false ∙ answered c.before
+passes : (c : tie.Else-k-ne0) → 0 ≡ first (checks (start c.before))
+passes c = sym c.if-k-ne0.false ∙ answered c.before
 
 abbrev refused : tie.Start → ℕ → Left
 refused s k = left (Refused k) (lent s) s.args.space.now
@@ -37,20 +37,20 @@ abbrev Ended : tie.Start → Left → Type 0
 Ended s l = EndsAs s.args.lost.now s.args.q s.args.m s.args.limit s.args.received.now (lent s) s.args.space.now
     l.ending l.buffers × (l.space ≡ cleared s.args.space.now)
 
-returns : tie.Need-returns
+returns : tie.Need-returns-then-k-ne0
 returns c =
     let s = start c.before in
-    refuses (checks s) (refused s) (Ended s) (answered c.before) c.if1.true
+    refuses (checks s) (refused s) (Ended s) (answered c.before) c.if-k-ne0.true
 
-returns-2 : tie.Need-returns-2
+returns-2 : tie.Need-returns
 returns-2 c =
     let decoded = c.before.before.before.before.before.before in
     let clear = decoded.before.before.before.before in
     let s = start clear.before in
-    does (checks s) (refused s) (Ended s) _ (passes clear) decoded.decode-ring.ensures
+    does (checks s) (refused s) (Ended s) _ (passes clear) decoded.decode_ring.ensures
 
-pub decode-lost-spec : {M : Type 1} → statement M
-decode-lost-spec =
+pub decode_lost_spec : {M : Type 1} → statement M
+decode_lost_spec =
     tie.close
     (tie.spec
     (λ c κs. search rules)

@@ -20,12 +20,12 @@ passed : (s : tie.Start) → PassedLost s.args.q s.args.m s.args.limit s.args.lo
     s.args.answer.now s.args.flags.now s.args.space.now
 passed s = losing _ _ _ _ _ _ _ _ s.requires
 
-abbrev start : tie.After-side → tie.Start
+abbrev start : tie.After-side-n → tie.Start
 start c = c.before.before.before.before.before.before
 
 -- the message lengths, points and array that are lent
-module _ (c : tie.After-array-of) where
-  abbrev begun : tie.After-side
+module _ (c : tie.After-array_of-array) where
+  abbrev begun : tie.After-side-n
   begun = c.before.before.before
 
   abbrev s : tie.Start
@@ -34,11 +34,11 @@ module _ (c : tie.After-array-of) where
   abbrev y : List ℕ
   y = s.args.received.now
 
-  shaped : Shape s.args.q s.args.m begun.side.result c.before.before.lengths.result c.before.columns.result
-  shaped = shape (passed s).word.ring.size begun.side.ensures c.before.before.lengths.ensures c.before.columns.ensures
+  shaped : Shape s.args.q s.args.m begun.side-n.result c.lengths-ks.result c.columns-xs.result
+  shaped = shape (passed s).word.ring.size begun.side-n.ensures c.lengths-ks.ensures c.columns-xs.ensures
 
-  array : Front (length y) c.array_of.result (take (length y) c.array_of.result)
-  array = array_front (passed s).word.received c.array_of.ensures
+  array : Front (length y) c.array_of-array.result (take (length y) c.array_of-array.result)
+  array = array_front (passed s).word.received c.array_of-array.ensures
 
   -- a part of 64 symbols that is as long as the ring
   short : length y ≤ 64
@@ -48,8 +48,8 @@ module _ (c : tie.After-array-of) where
   size = length-take-le _ blank short
 
 -- what the array's decoding left of the array lent for its answer
-module _ (c : tie.After-decode-lost) where
-  abbrev made : tie.After-array-of
+module _ (c : tie.After-decode_lost-ending) where
+  abbrev made : tie.After-array_of-array
   made = c.before.before.before.before.before.before.before.before
 
   abbrev here : tie.Start
@@ -59,36 +59,36 @@ module _ (c : tie.After-decode-lost) where
   lent_answer = take (length (y made)) blank
 
   abbrev own : List ℕ
-  own = c.decode-lost.new.1.1.1.1.1.1.1.0
+  own = c.decode_lost-ending.new.answer
 
   abbrev flags : List ℕ
-  flags = c.decode-lost.new.1.1.1.1.1.1.1.1.0
+  flags = c.decode_lost-ending.new.flags
 
   abbrev space : List ℕ
-  space = c.decode-lost.new.1.1.1.1.1.1.1.1.1.0
+  space = c.decode_lost-ending.new.space
 
   answer : Front (length (y made)) (own ++ drop (length (y made)) blank) own
-  answer = given_back (length (y made)) (drop (length (y made)) blank) refl (c.decode-lost.auto.1.1.1.1.1.1.1.0 ∙ size made)
+  answer = given_back (length (y made)) (drop (length (y made)) blank) refl (c.decode_lost-ending.auto.answer ∙ size made)
 
   -- how it ended
-  ended : LostEnds (ring_code here.args.q here.args.m) here.args.lost.now (take (length (y made)) made.array_of.result)
-      here.args.limit (buffers lent_answer here.args.flags.now) c.decode-lost.result (buffers own flags)
+  ended : LostEnds (ring_code here.args.q here.args.m) here.args.lost.now (take (length (y made)) made.array_of-array.result)
+      here.args.limit (buffers lent_answer here.args.flags.now) c.decode_lost-ending.result (buffers own flags)
       × (space ≡ cleared here.args.space.now)
-  ended = lost_ended (passed here) made.array_of.ensures lent_answer (size made ∙ (passed here).word.received.count)
-      (left c.decode-lost.result (buffers own flags) space)
-      (rw ((shaped made).lengths.is, (shaped made).points.is, (shaped made).factors.is) at c.decode-lost.ensures)
+  ended = lost_ended (passed here) made.array_of-array.ensures lent_answer (size made ∙ (passed here).word.received.count)
+      (left c.decode_lost-ending.result (buffers own flags) space)
+      (rw ((shaped made).lengths.is, (shaped made).points.is, (shaped made).factors.is) at c.decode_lost-ending.ensures)
 
 -- where the answer is lent to be carried back
-abbrev decoded : tie.After-carry-back-arg → tie.After-decode-lost
+abbrev decoded : tie.After-carry_back-arg-1 → tie.After-decode_lost-ending
 decoded c = c.before.before.before.before.before.before.before
 
-carry-back-requires : tie.Need-carry-back-requires
+carry-back-requires : tie.Need-carry_back-requires
 carry-back-requires c κs =
     let d = decoded c in
     let p = passed (here d) in
     record {
       size = p.word.ring.size;
-      array = rw (answer d).is (lost_answer p (made d).array_of.ensures (lent_answer d) d.decode-lost.result
+      array = rw (answer d).is (lost_answer p (made d).array_of-array.ensures (lent_answer d) d.decode_lost-ending.result
           (buffers (own d) (flags d)) (ended d).0);
       room = p.word.answer;
     }
@@ -97,13 +97,13 @@ returns : tie.Need-returns
 returns c =
     let b = c.before.before in
     let d = decoded b.before in (
-      lost_ring_ends (passed (here d)) (made d).array_of.ensures (lent_answer d) (own d) (flags d) b.carry_back.new.1.1.1.0
-          d.decode-lost.result (ended d).0 (rw (answer d).is at (b.carry_back.ensures (flags d))),
+      lost_ring_ends (passed (here d)) (made d).array_of-array.ensures (lent_answer d) (own d) (flags d) b.carry_back.new.answer
+          d.decode_lost-ending.result (ended d).0 (rw (answer d).is at (b.carry_back.ensures (flags d))),
       (ended d).1,
     )
 
-pub decode-ring-spec : {M : Type 1} → statement M
-decode-ring-spec =
+pub decode_ring_spec : {M : Type 1} → statement M
+decode_ring_spec =
     tie.close
     (tie.spec
     (λ c κs. search rules)
