@@ -30,16 +30,16 @@ module _ (c : tie.After-raise) where
 
   ready : Ready start.args.degree start.args.k start.args.powers start.args.points.now start.args.limit
       start.args.row.now start.args.own.now start.args.flags.now start.args.space.now
-  ready = start.pre
+  ready = start.requires
 
   abbrev n : ℕ
   n = length start.args.points.now
 
   abbrev ks : List ℕ
-  ks = c.before.before.before.lengths.result
+  ks = c.lengths-ks.result
 
   lengths_are : take start.args.powers ks ≡ power_lengths start.args.k start.args.powers
-  lengths_are = c.before.before.before.lengths.ensures
+  lengths_are = c.lengths-ks.ensures
 
   count : length (power_lengths start.args.k start.args.powers) ≡ start.args.powers
   count = length_powers start.args.k 1 start.args.powers
@@ -48,7 +48,7 @@ module _ (c : tie.After-raise) where
   few = ready.counts.most_columns
 
   abbrev rows : List ℕ
-  rows = c.raise.new.1.1.1.1.0
+  rows = c.raise.new.rows
 
   long : length rows ≡ 384
   long = ap length c.raise.ensures ∙ length-lay 0 _ (replicate 384 0)
@@ -72,41 +72,41 @@ module _ (c : tie.After-raise) where
 
 raise-requires : tie.Need-raise-requires
 raise-requires c κs =
-    let p = c.before.before.before.before.before.before.before.before.before.requires in (
+    let p = c.requires in (
       record {
         degree = p.counts.degree;
         symbols = p.row.symbols;
         most = omega (arith, p.row.count, p.counts.most_columns);
         room = ready_room p;
       },
-      c.before.before.before.lend.ensures,
+      c.lend-table.ensures,
     )
 
-decode-struck-requires : tie.Need-decode-struck-requires
+decode-struck-requires : tie.Need-decode_struck-ending-requires
 decode-struck-requires c κs =
-    let r = c.before.before.before.before.before.before.before.before.before.before in
+    let r = c.before.before.before.before.before.before.before.before in
     let p = ready r in
     rw (lengths_are r, take-replicate (n r) 96 1 (few r), rows_are r) (
       (joint_ready p, omega (arith, front r)),
       (
         (sym (size r), p.flags),
         (
-          (r.before.before.before.before.lend.ensures, λ some. absurd (omega (arith, some))),
+          (r.lend-table.ensures, λ some. absurd (omega (arith, some))),
           (ones_factors _ p.shape.proper, λ e. each-one (n r)),
         ),
       ),
     )
 
 -- where the powers are decoded
-module _ (c : tie.After-decode-struck) where
+module _ (c : tie.After-decode_struck-ending) where
   abbrev raised : tie.After-raise
-  raised = c.before.before.before.before.before.before.before.before.before.before.before
+  raised = c.before.before.before.before.before.before.before.before.before
 
   abbrev used : List ℕ
-  used = c.decode-struck.new.1.1.1.1.1.1.1.1.1.1.1.1.0
+  used = c.decode_struck-ending.new.space
 
   used_kept : length used ≡ length (take space_bytes (start raised).args.space.now)
-  used_kept = c.decode-struck.auto.1.1.1.1.1.1.1.1.1.1.1.1.0
+  used_kept = c.decode_struck-ending.auto.space
 
   used_size : length used ≡ space_bytes
   used_size = used_kept ∙ front raised
@@ -121,32 +121,32 @@ returns : tie.Need-returns
 returns c =
     let d = c.before.before.before.before.before.before.before.before.before.before in
     let r = raised d in
-    let left = d.decode-struck.new.1.1.1.1.1.1.1.1.1.1 in
-    let b = buffers left.0 left.1.0 in (
-      struck_ended (ready r) d.decode-struck.result b
-          (rw (lengths_are r, take-replicate (n r) 96 1 (few r), rows_are r) at d.decode-struck.ensures),
-      cleared_by _ c.before.before.clear.ensures (used_room d) ∙ cleared_behind (used d) (start r).args.space.now (used_size d),
+    let left = d.decode_struck-ending.new in
+    let b = buffers left.answer left.flags in (
+      struck_ended (ready r) d.decode_struck-ending.result b
+          (rw (lengths_are r, take-replicate (n r) 96 1 (few r), rows_are r) at d.decode_struck-ending.ensures),
+      cleared_by _ c.clear.ensures (used_room d) ∙ cleared_behind (used d) (start r).args.space.now (used_size d),
     )
 
-pub decode-rows-spec : {M : Type 1} → statement M
-decode-rows-spec = tie.close (tie.spec
-    (λ c κs. let s = c.before.before.before.before.before in s.requires.counts.degree)
-    (λ c κs. ready_short c.before.before.before.before.before.before.requires)
+pub decode_rows_spec : {M : Type 1} → statement M
+decode_rows_spec = tie.close (tie.spec
+    (λ c κs. let s = c in s.requires.counts.degree)
+    (λ c κs. ready_short c.requires)
     (λ c. search rules)
     raise-requires
     (λ c. let r = c.before.before in front_room (start r).args.powers (ks r) (lengths_are r) (count r))
     (λ c. let r = c.before.before.before in sym (ap length (lengths_are r) ∙ count r))
     (λ c. search rules)
-    (λ c. few c.before.before.before.before)
-    (λ c. sym (ones-size c.before.before.before.before.before))
+    (λ c. few c.before.before.before)
+    (λ c. sym (ones-size c.before.before.before.before))
     (λ c. search rules)
-    (λ c. let r = c.before.before.before.before.before.before in omega (arith, long r, room r))
-    (λ c. let r = c.before.before.before.before.before.before.before in sym (ap length (rows_are r) ∙ size r))
-    (λ c. (ready c.before.before.before.before.before.before.before.before.before).space)
-    (λ c. sym (front c.before.before.before.before.before.before.before.before.before.before))
+    (λ c. let r = c.before.before.before.before in omega (arith, long r, room r))
+    (λ c. let r = c.before.before.before.before.before in sym (ap length (rows_are r) ∙ size r))
+    (λ c. (ready c.before.before.before.before.before.before.before).space)
+    (λ c. sym (front c.before.before.before.before.before.before.before.before))
     decode-struck-requires
     (λ c κs. used_room c.before.before.before.before.before.before.before)
     (λ c. search rules)
     (λ c. search rules)
-    (λ c. c.before.before.clear.auto.0 ∙ used_long c.before.before.before.before.before.before.before.before.before.before)
+    (λ c. c.clear.auto.s ∙ used_long c.before.before.before.before.before.before.before.before.before.before)
     returns)

@@ -16,37 +16,37 @@ use Rattle.powers.proofs.give.Tie as tie
 -- where the row is copied
 module _ (c : tie.After-copy) where
   abbrev start : tie.Start
-  start = c.before.before.before.before.before.before.before
+  start = c.before.before.before.before.before.before
 
-  is_row : c.copy.new.1.0 ≡ start.args.row.now
-  is_row = copied start.args.row.now start.args.answer.now start.pre.same c.copy.ensures.1
+  is_row : c.copy.new.s ≡ start.args.row.now
+  is_row = copied start.args.row.now start.args.answer.now start.requires.same c.copy.ensures
 
 multiply-requires : tie.Need-multiply-requires
 multiply-requires c κs =
     let d = c.before.before.before in
     let s = start d in
     subst (Striking s.args.degree s.args.factors.now 1) (sym (is_row d))
-    (s.pre.striking _ d.before.before.enum-told2.given.1)
+    (s.requires.striking _ d.in-Corrected.is)
 
-returns-2 : tie.Need-returns-2
+returns-2 : tie.Need-returns-in-Corrected
 returns-2 c f =
     let m = c.before.before in
     let d = m.before.before.before.before in
-    rw d.before.before.enum-told2.given.1 (ap (λ (a : List ℕ). buffers a f)
+    rw d.in-Corrected.is (ap (λ (a : List ℕ). buffers a f)
     (m.multiply.ensures ∙ ap (with_factors (times (start d).args.degree) (start d).args.factors.now 1) (is_row d)))
 
 pub give_spec : {M : Type 1} → statement M
 give_spec = tie.close (tie.spec
     (λ c. search rules)
     (λ c. search rules)
-    (λ c κs. omega (arith, c.before.before.before.before.before.before.requires.same))
+    (λ c κs. omega (arith, c.requires.same))
     multiply-requires
     (λ c. search rules)
     (λ c. search rules)
     (λ c. search rules)
-    (λ c f. rw c.enum_told.given.1)
+    (λ c f. rw c.in-Refused.is)
     (λ c. search rules)
     returns-2
-    (λ c f. rw c.enum-told3.given.1)
-    (λ c f. rw c.enum-told4.given.1)
-    (λ c f. rw c.enum-told5.given.1))
+    (λ c f. rw c.in-Nothing.is)
+    (λ c f. rw c.in-Several.is)
+    (λ c f. rw c.in-Hollow.is))

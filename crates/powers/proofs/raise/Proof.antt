@@ -13,29 +13,29 @@ use borrow.Author.Rules.{rules}
 use Rattle.powers.proofs.raise.Statement.{statement}
 use Rattle.powers.proofs.raise.Tie as tie
 
-abbrev invariant-loop : tie.invariant-loop
+abbrev invariant-loop : tie.invariant-loop-i
 invariant-loop table degree powers row rows₀ power₀ at₀ i₀ rows power at i = Raised degree powers row rows₀ rows power at i
 
-abbrev decreases-loop : tie.decreases-loop
+abbrev decreases-loop : tie.decreases-loop-i
 decreases-loop table degree powers row rows₀ power₀ at₀ i₀ rows power at i = powers - i
 
 -- a turn, in which a power is left
-module _ (c : tie.In-loop invariant-loop decreases-loop) where
+module _ (c : tie.In-loop-i invariant-loop decreases-loop) where
   abbrev start : tie.Start invariant-loop decreases-loop
   start = c.before.before.before.before.before.before.before
 
-  undone : let a = start.args in let own = c.before.loop in
+  undone : let a = start.args in let own = c.loop-i in
       Raised a.degree a.powers a.row.now a.rows.now own.rows own.power own.at own.i
-  undone = c.before.loop.invariant
+  undone = c.loop-i.invariant
 
-  more : c.before.loop.i < start.args.powers
-  more = c.loop-test.true
+  more : c.loop-i.i < start.args.powers
+  more = c.loop-i-test.true
 
 multiply-requires : tie.Need-multiply-requires invariant-loop decreases-loop
 multiply-requires c κs =
     let t = c.before.before.before.before.before.before in
     let s = start t in
-    let (p, table) = s.pre in
+    let (p, table) = s.requires in
     let 𝓕 = field s.args.degree p.degree in (
       (p.degree, table, 𝓕.zero_in, 𝓕.zero_in),
       (
@@ -47,20 +47,20 @@ multiply-requires c κs =
       ),
     )
 
-loop-again : tie.Need-loop-preserved invariant-loop decreases-loop
+loop-again : tie.Need-loop-i-preserved invariant-loop decreases-loop
 loop-again c =
     let t = c.before.before.before.before.before.before.before.before in
-    raised_next (start t).requires.0 (undone t) (more t) c.before.before.before.before.before.store2.ensures
-    c.before.multiply.ensures
+    raised_next (start t).requires.0 (undone t) (more t) c.store-in-loop-i.ensures
+    c.multiply.ensures
 
-pub raise-spec : {M : Type 1} → statement M
-raise-spec = tie.close (tie.spec
+pub raise_spec : {M : Type 1} → statement M
+raise_spec = tie.close (tie.spec
     invariant-loop
     decreases-loop
     (λ c. refl)
     (λ c κs. let s = c.before.before.before in omega (arith, s.requires.0.most))
     (λ c. let s = c.before.before.before.before.before in
-    raised-first s.requires.0 (replicate 96 0) (length-replicate {A = ℕ} 96 0) c.before.store.ensures)
+    raised-first s.requires.0 (replicate 96 0) (length-replicate {A = ℕ} 96 0) c.store.ensures)
     (λ c. omega (arith, (undone c).long, (start c).requires.0.most))
     (λ c. let t = c.before in sym (stored (start t).requires.0 (undone t) (more t)))
     (λ c κs. let t = c.before.before in let p = (start t).requires.0 in
@@ -72,6 +72,6 @@ raise-spec = tie.close (tie.spec
     (λ c. omega (arith, more c.before.before.before.before.before.before.before.before))
     (λ c. omega (arith, more c.before.before.before.before.before.before.before.before))
     loop-again
-    (λ c. c.before.loop.invariant.same)
-    (λ c. let s = c.before.before.before.before.before.before.before in
-    raised_all s.requires.0 c.before.loop.invariant (λ q. omega (arith, c.loop-test.false))))
+    (λ c. c.loop-i.invariant.same)
+    (λ c. let s = c in
+    raised_all s.requires.0 c.loop-i.invariant (λ q. omega (arith, c.loop-i-test.false))))

@@ -38,7 +38,7 @@ module _ (s : tie.Start) where
 
   allowed : Passed s.args.degree s.args.k s.args.powers s.args.points.now s.args.factors.now s.args.limit y
       s.args.answer.now s.args.flags.now s.args.space.now
-  allowed = passed _ _ _ _ _ _ _ _ _ _ s.pre
+  allowed = passed _ _ _ _ _ _ _ _ _ _ s.requires
 
   few : n ≤ 96
   few = allowed.sizes.counted.most_columns
@@ -59,10 +59,10 @@ module _ (c : tie.After-divide) where
   s = c.before.before.before.before.before.before.before.before
 
   abbrev z : List ℕ
-  z = take (n s) c.divide.new.1.1.1.1.0
+  z = take (n s) c.divide.new.s
 
   is_quotient : z ≡ divided (D s) (y s)
-  is_quotient = ap (λ (m : ℕ). take m c.divide.new.1.1.1.1.0) (sym (allowed s).received.count) ∙ c.divide.ensures
+  is_quotient = ap (λ (m : ℕ). take m c.divide.new.s) (sym (allowed s).received.count) ∙ c.divide.ensures
 
   quotient : Row s.args.degree (n s) z
   quotient = let p = allowed s in subst (Row s.args.degree (n s)) (sym is_quotient)
@@ -89,7 +89,7 @@ module _ (c : tie.After-divide) where
   }
 
 -- where the powers are decoded
-module _ (c : tie.After-decode-rows) where
+module _ (c : tie.After-decode_rows-ending) where
   abbrev divided-at : tie.After-divide
   divided-at = c.before.before.before.before.before.before
 
@@ -97,13 +97,13 @@ module _ (c : tie.After-decode-rows) where
   begun = s divided-at
 
   abbrev own : List ℕ
-  own = c.decode-rows.new.1.1.1.1.1.1.0
+  own = c.decode_rows-ending.new.own
 
   abbrev flags : List ℕ
-  flags = c.decode-rows.new.1.1.1.1.1.1.1.0
+  flags = c.decode_rows-ending.new.flags
 
   own_size : length own ≡ begun.args.powers * n begun
-  own_size = c.decode-rows.auto.1.1.1.1.1.1.0 ∙ blank-size divided-at
+  own_size = c.decode_rows-ending.auto.own ∙ blank-size divided-at
 
   enough : n begun ≤ length own
   enough = omega (arith, own_size, first_in begun)
@@ -116,10 +116,10 @@ module _ (c : tie.After-decode-rows) where
 
   ends : Ends (power_code begun.args.degree begun.args.points.now begun.args.k begun.args.powers)
       (power_rows begun.args.degree begun.args.powers (z divided-at)) begun.args.limit
-      (buffers (blank divided-at) begun.args.flags.now) c.decode-rows.result (buffers own flags)
-  ends = c.decode-rows.ensures.0
+      (buffers (blank divided-at) begun.args.flags.now) c.decode_rows-ending.result (buffers own flags)
+  ends = c.decode_rows-ending.ensures.0
 
-  first_row : (w : ℕ) → c.decode-rows.result ≡ Corrected w → Row begun.args.degree (n begun) (take (n begun) own)
+  first_row : (w : ℕ) → c.decode_rows-ending.result ≡ Corrected w → Row begun.args.degree (n begun) (take (n begun) own)
   first_row w is = let p = allowed begun in
       corrected_row p.shape (quotient divided-at) p.limit {left = buffers own flags}
       (subst (λ (e : Ending). Ends (power_code begun.args.degree begun.args.points.now begun.args.k begun.args.powers)
@@ -128,7 +128,7 @@ module _ (c : tie.After-decode-rows) where
 
 give-requires : tie.Need-give-requires
 give-requires c κs =
-    let r = c.before.before.before.before.before.before.before.before in
+    let r = c.before.before.before.before.before.before.before in
     let b = begun r in
     record {
       same = ap length (first r) ∙ length-take-le (n b) (own r) (enough r) ∙ sym (allowed b).answer;
@@ -137,29 +137,29 @@ give-requires c κs =
 
 returns : tie.Need-returns
 returns c =
-    let g = c.before.before in
-    let r = c.before.before.before.before.before.before.before.before.before.before.before in
+    let g = c in
+    let r = c.before.before.before.before.before.before.before.before.before.before in
     let b = begun r in (
       power_ends b.args.degree b.args.k b.args.powers b.args.points.now b.args.factors.now b.args.limit (y b)
           b.args.answer.now b.args.flags.now (is_quotient (divided-at r)) (blank (divided-at r)) (own r)
-          (flags r) g.give.new.1.1.1.1.0 r.decode-rows.result (ends r) (rw (first r) at (g.give.ensures (flags r))),
-      r.decode-rows.ensures.1,
+          (flags r) g.give.new.answer r.decode_rows-ending.result (ends r) (rw (first r) at (g.give.ensures (flags r))),
+      r.decode_rows-ending.ensures.1,
     )
 
-pub work-spec : {M : Type 1} → statement M
-work-spec = tie.close (tie.spec
+pub work_spec : {M : Type 1} → statement M
+work_spec = tie.close (tie.spec
     (λ c. omega (arith, cells c.before.before.before.before.before.before))
     (λ c. search rules)
     (λ c κs. let b = c.before.before.before.before.before.before.before in
     (struck b (allowed b).received, omega (arith, (allowed b).received.count, few b)))
-    (λ c. omega (arith, few (s c.before), c.before.divide.auto.1.1.1.1.0))
+    (λ c. omega (arith, few (s c.before), c.divide.auto.s))
     (λ c. sym (quotient c.before.before).count)
     (λ c. cells (s c.before.before))
     (λ c. sym (blank-size c.before.before.before))
     (λ c κs. ready c.before.before.before.before.before)
     (λ c. search rules)
     (λ c. search rules)
-    (λ c. let r = c.before.before.before.before.before.before in
+    (λ c. let r = c.before.before.before.before.before in
     omega (arith, enough r, length-append (own r) (drop ((begun r).args.powers * n (begun r)) (replicate 384 0))))
     give-requires
     (λ c. search rules)
