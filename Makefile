@@ -48,10 +48,10 @@ fuzz:
 	@SECONDS_EACH=$(SECONDS_EACH) SEED=$(SEED) tests/fuzz
 
 check:
-	@rt check
+	@rt all check
 
 fmt:
-	@rt fmt
+	@for crate in crates/*/; do (cd "$$crate" && rt fmt) || exit 1; done
 
 clean:
-	rm -rf target
+	rm -rf target crates/*/out

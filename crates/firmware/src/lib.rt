@@ -1,4 +1,7 @@
-// The C interface: the calls on marks, trays and rings, with their answers as one number. include/grenhyrna.h is for its callers.
+// The calls on marks, trays and rings, with their answers as one number. firmware_c exports them to C callers, for whom
+// include/grenhyrna.h is.
+#![tactic(auto)]
+
 ghost use Rattle.std.specs.Prelude.{◌≡◌, ℕ, ◌≤◌};
 ghost use Rattle.refusal.specs.Meaning.{packed};
 ghost use Rattle.firmware.specs.Returns.{Returns};
@@ -55,8 +58,7 @@ fn total(answer: Answer) -> u32
 }
 
 // Writes what is struck for a message.
-#[unsafe(no_mangle)]
-pub extern "C" fn gren_mark_encode(
+pub fn gren_mark_encode(
     degree: u32,
     lengths: &[u8],
     points: &[u8],
@@ -72,8 +74,7 @@ pub extern "C" fn gren_mark_encode(
 }
 
 // Writes the message for which an array was struck.
-#[unsafe(no_mangle)]
-pub extern "C" fn gren_mark_read(
+pub fn gren_mark_read(
     degree: u32,
     lengths: &[u8],
     points: &[u8],
@@ -89,8 +90,7 @@ pub extern "C" fn gren_mark_read(
 }
 
 // Decodes a received array up to the trial limit.
-#[unsafe(no_mangle)]
-pub extern "C" fn gren_mark_decode(
+pub fn gren_mark_decode(
     degree: u32,
     lengths: &[u8],
     points: &[u8],
@@ -112,8 +112,7 @@ pub extern "C" fn gren_mark_decode(
 }
 
 // Decodes a received array of which some columns are lost.
-#[unsafe(no_mangle)]
-pub extern "C" fn gren_mark_decode_lost(
+pub fn gren_mark_decode_lost(
     degree: u32,
     lengths: &[u8],
     points: &[u8],
@@ -136,8 +135,7 @@ pub extern "C" fn gren_mark_decode_lost(
 }
 
 // Decodes a received row as so many powers of it.
-#[unsafe(no_mangle)]
-pub extern "C" fn gren_mark_decode_powers(
+pub fn gren_mark_decode_powers(
     degree: u32,
     k: u32,
     powers: u32,
@@ -160,8 +158,7 @@ pub extern "C" fn gren_mark_decode_powers(
 }
 
 // Lists every code array within the trial limit of a received one.
-#[unsafe(no_mangle)]
-pub extern "C" fn gren_mark_list(
+pub fn gren_mark_list(
     degree: u32,
     lengths: &[u8],
     points: &[u8],
@@ -177,8 +174,7 @@ pub extern "C" fn gren_mark_list(
 }
 
 // Decodes a tray of marks of one code; each mark's answer is its own number.
-#[unsafe(no_mangle)]
-pub extern "C" fn gren_tray_decode(
+pub fn gren_tray_decode(
     degree: u32,
     lengths: &[u8],
     points: &[u8],
@@ -201,24 +197,21 @@ pub extern "C" fn gren_tray_decode(
 }
 
 // Writes the word of H(m) of a message.
-#[unsafe(no_mangle)]
-pub extern "C" fn gren_ring_encode(q: u32, m: u32, message: &[u8], word: &mut [u8]) -> u32
+pub fn gren_ring_encode(q: u32, m: u32, message: &[u8], word: &mut [u8]) -> u32
     ensures { Returns meaning (λ o. rings.Encodes q m message.now word.old (left o word.new)) result }
 {
     number(ring::encode(q, m, message, word))
 }
 
 // Writes the message of a word of H(m).
-#[unsafe(no_mangle)]
-pub extern "C" fn gren_ring_read(q: u32, m: u32, word: &[u8], message: &mut [u8]) -> u32
+pub fn gren_ring_read(q: u32, m: u32, word: &[u8], message: &mut [u8]) -> u32
     ensures { Returns meaning (λ o. rings.Reads q m word.now message.old (left o message.new)) result }
 {
     number(ring::read(q, m, word, message))
 }
 
 // Decodes a received ring up to the trial limit.
-#[unsafe(no_mangle)]
-pub extern "C" fn gren_ring_decode(
+pub fn gren_ring_decode(
     q: u32,
     m: u32,
     limit: u32,
@@ -235,8 +228,7 @@ pub extern "C" fn gren_ring_decode(
 }
 
 // Decodes a received ring of which some sectors are lost.
-#[unsafe(no_mangle)]
-pub extern "C" fn gren_ring_decode_lost(
+pub fn gren_ring_decode_lost(
     q: u32,
     m: u32,
     limit: u32,
@@ -254,8 +246,7 @@ pub extern "C" fn gren_ring_decode_lost(
 }
 
 // Decodes a received ring by its wrong symbols.
-#[unsafe(no_mangle)]
-pub extern "C" fn gren_ring_decode_pits(
+pub fn gren_ring_decode_pits(
     q: u32,
     m: u32,
     limit: u32,

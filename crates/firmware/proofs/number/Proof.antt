@@ -6,9 +6,9 @@ use borrow.Author.Rules.{rules}
 use Rattle.firmware.proofs.number.Statement.{statement}
 use Rattle.firmware.proofs.number.Tie as tie
 
-pub number-spec : {M : Type 1} → statement M
+pub number_spec : {M : Type 1} → statement M
 unfolding packed
-number-spec = tie.close (tie.spec
+number_spec = tie.close (tie.spec
     (λ c. search rules) (λ c. search rules) (λ c. search rules)
-    (λ c. rw c.enum_told.given.1)
-    (λ c. rw c.before.outcome.given.1 (omega arith)))
+    (λ c. rw c.in-Done.is)
+    (λ c. rw c.in-Refused.is (omega arith)))

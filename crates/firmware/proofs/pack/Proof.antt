@@ -6,14 +6,14 @@ use borrow.Author.Rules.{rules}
 use Rattle.firmware.proofs.pack.Statement.{statement}
 use Rattle.firmware.proofs.pack.Tie as tie
 
-pub pack-spec : {M : Type 1} → statement M
+pub pack_spec : {M : Type 1} → statement M
 unfolding packed
-pack-spec = tie.close (tie.spec
+pack_spec = tie.close (tie.spec
     (λ c. search rules) (λ c. search rules) (λ c. search rules) (λ c. search rules)
     (λ c. search rules) (λ c. search rules) (λ c. search rules) (λ c. search rules)
     (λ c. search rules) (λ c. search rules) (λ c. search rules) (λ c. search rules)
-    (λ c. rw c.before.ending.given.1 (omega arith))
-    (λ c. rw c.before.ending2.given.1)
-    (λ c. rw c.enum_told.given.1)
-    (λ c. rw c.before.ending3.given.1)
-    (λ c. rw c.before.ending4.given.1))
+    (λ c. rw c.in-Refused.is (omega arith))
+    (λ c. rw c.in-Corrected.is)
+    (λ c. rw c.in-Nothing.is)
+    (λ c. rw c.in-Several.is)
+    (λ c. rw c.in-Hollow.is))

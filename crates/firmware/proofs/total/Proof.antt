@@ -6,12 +6,12 @@ use borrow.Author.Rules.{rules}
 use Rattle.firmware.proofs.total.Statement.{statement}
 use Rattle.firmware.proofs.total.Tie as tie
 
-pub total-spec : {M : Type 1} → statement M
+pub total_spec : {M : Type 1} → statement M
 unfolding packed
-total-spec = tie.close (tie.spec
+total_spec = tie.close (tie.spec
     (λ c. search rules)
-    (λ c. omega (arith, c.before.before.before.requires _ c.before.answer.given.1))
+    (λ c. omega (arith, c.requires _ c.in-Total.is))
     (λ c. search rules)
     (λ c. search rules)
-    (λ c. rw c.before.answer.given.1 (omega arith))
-    (λ c. rw c.before.answer2.given.1 (omega arith)))
+    (λ c. rw c.in-Total.is (omega arith))
+    (λ c. rw c.in-Refused.is (omega arith)))

@@ -93,7 +93,7 @@ weights_spec =
     (λ c. omega (arith, room c))
     (λ c. omega (arith, room c))
     (λ c. search rules)
-    (λ c. omega (arith, room c.before, (solved c.before).solve.ensures.1))
+    (λ c. omega (arith, room c, (solved c).solve.ensures.1))
     part-store-end
     (λ c. search rules)
     store-requires

@@ -25,12 +25,12 @@ small_by q size = each Small q size
     (record { some = omega arith; lines = omega arith; columns = omega arith; symbols = omega arith })
     (record { some = omega arith; lines = omega arith; columns = omega arith; symbols = omega arith })
 
-counts : (c : tie.After-side) → Small c.side.result
-counts c = rw c.side.ensures (small_by c.before.args.q c.before.requires.size)
+counts : (c : tie.After-side-n) → Small c.side-n.result
+counts c = rw c.side-n.ensures (small_by c.args.q c.requires.size)
 
-small : (c : tie.After-side) → c.before.args.m ≤ 63
-small c = (room c.before.args.q c.before.args.m 0 c.before.requires.size c.before.requires.order
-    (omega (arith, (small_by c.before.args.q c.before.requires.size).some))).most
+small : (c : tie.After-side-n) → c.args.m ≤ 63
+small c = (room c.args.q c.args.m 0 c.requires.size c.requires.order
+    (omega (arith, (small_by c.args.q c.requires.size).some))).most
 
 -- n is q as a count
 above : (q n m τ : ℕ) → n ≡ q → ltb (n * n * n) (m + 1 + n * (n - 1) / 2) ≡ true → true ≡ bad_limit q m τ
@@ -40,8 +40,8 @@ within : (q n m τ : ℕ) → n ≡ q → ltb (n * n * n) (m + 1 + n * (n - 1) /
     → ltb ((n * n * n - (m + 1 + n * (n - 1) / 2)) / 2) τ ≡ bad_limit q m τ
 within q n m τ e h = rw (← e, h)
 
-pub bad-limit-spec : {M : Type 1} → statement M
-bad-limit-spec =
+pub bad_limit_spec : {M : Type 1} → statement M
+bad_limit_spec =
     tie.close
     (tie.spec
     (λ c κs. search rules)
@@ -51,8 +51,8 @@ bad-limit-spec =
     (λ c. omega (arith, small c, (counts c).lines))
     (λ c. omega (arith, (counts c).columns))
     (λ c. omega (arith, (counts c).symbols))
-    (λ c. above _ _ _ _ c.before.side.ensures (lt-ltb _ _ c.if1.true))
+    (λ c. above _ _ _ _ c.side-n.ensures (lt-ltb _ _ c.if-n-least.true))
     (λ c. omega (arith, (counts c.before).columns))
     (λ c. omega (arith, (counts c.before).symbols))
-    (λ c. omega (arith, c.if1.false))
-    (λ c. within _ _ _ _ c.before.side.ensures (le-ltb _ _ c.if1.false)))
+    (λ c. omega (arith, c.if-n-least.false))
+    (λ c. within _ _ _ _ c.side-n.ensures (le-ltb _ _ c.if-n-least.false)))

@@ -15,7 +15,7 @@ use borrow.Author.Rules.{rules}
 use Rattle.scattered.proofs.decode.Statement.{statement}
 use Rattle.scattered.proofs.decode.Tie as tie
 
-abbrev start : tie.After-decode-refusal → tie.Start
+abbrev start : tie.After-decode_refusal-k → tie.Start
 start c = c.before.before.before.before.before
 
 abbrev lent : tie.Start → Buffers
@@ -25,28 +25,28 @@ abbrev checks : tie.Start → List Check
 checks s = checks_of s.args.q s.args.m s.args.limit s.args.received.now (lent s) s.args.space.now
 
 -- the refusal is the number of the first check that applies
-answered : (c : tie.After-decode-refusal) → c.decode-refusal.result ≡ first (checks (start c))
-answered c = let a = (start c).args in c.decode-refusal.ensures a.answer.now a.flags.now a.space.now refl refl refl
+answered : (c : tie.After-decode_refusal-k) → c.decode_refusal-k.result ≡ first (checks (start c))
+answered c = let a = c.args in c.decode_refusal-k.ensures a.answer.now a.flags.now a.space.now refl refl refl
 
-none : (c : tie.Else1) → 0 ≡ first (checks (start c.before))
-none c = sym c.if1.false ∙ answered c.before
+none : (c : tie.Else-k-ne0) → 0 ≡ first (checks (start c.before))
+none c = sym c.if-k-ne0.false ∙ answered c.before
 
-passes : (c : tie.Else1) → PassedPits (start c.before).args.q (start c.before).args.m (start c.before).args.limit
-    (start c.before).args.received.now (start c.before).args.answer.now (start c.before).args.flags.now
-    (start c.before).args.space.now
+passes : (c : tie.Else-k-ne0) → PassedPits c.args.q c.args.m c.args.limit
+    c.args.received.now c.args.answer.now c.args.flags.now
+    c.args.space.now
 passes c =
-    let a = (start c.before).args in
+    let a = c.args in
     passed a.q a.m a.limit a.received.now (lent (start c.before)) a.space.now (none c)
 
 abbrev Ended : tie.Start → Ending → Buffers → Type 0
 Ended s = PitEnds s.args.q s.args.m s.args.limit s.args.received.now (lent s)
 
-returns : tie.Need-returns
+returns : tie.Need-returns-then-k-ne0
 returns c =
     let s = start c.before in
-    refuses (checks s) (lent s) s.args.space.now (Ended s) (answered c.before) c.if1.true
+    refuses (checks s) (lent s) s.args.space.now (Ended s) (answered c.before) c.if-k-ne0.true
 
-returns-2 : tie.Need-returns-2
+returns-2 : tie.Need-returns
 returns-2 c =
     let m = c.before.before.before.before in
     let w = m.before.before.before.before.before in
@@ -55,8 +55,8 @@ returns-2 c =
     leaves (checks s) (lent s) s.args.space.now (Ended s) (none e) m.mend.result _ _ m.mend.ensures
     (cleared_by _ w.clear.ensures (passes e).word.space)
 
-pub decode-spec : {M : Type 1} → statement M
-decode-spec =
+pub decode_spec : {M : Type 1} → statement M
+decode_spec =
     tie.close
     (tie.spec
     (λ c κs. search rules)

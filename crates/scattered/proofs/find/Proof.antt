@@ -14,37 +14,37 @@ use borrow.Author.Rules.{rules}
 use Rattle.scattered.proofs.find.Statement.{statement}
 use Rattle.scattered.proofs.find.Tie as tie
 
-module _ (c : tie.After-ordinates) where
+module _ (c : tie.After-ordinates-ys) where
   abbrev start : tie.Start
   start = c.before.before.before.before.before
 
   abbrev y : List ℕ
   y = start.args.received.now
 
-  room : length y ≤ length c.ordinates.result
-  room = omega (arith, start.pre.1.count, y_room start.args.q start.pre.0.size c.ordinates.result c.ordinates.ensures)
+  room : length y ≤ length c.ordinates-ys.result
+  room = omega (arith, start.requires.1.count, y_room start.args.q start.requires.0.size c.ordinates-ys.result c.ordinates-ys.ensures)
 
-  size : length (take (length y) c.ordinates.result) ≡ length y
-  size = length-take-le (length y) c.ordinates.result room
+  size : length (take (length y) c.ordinates-ys.result) ≡ length y
+  size = length-take-le (length y) c.ordinates-ys.result room
 
 answer-requires : tie.Need-answer-requires
 answer-requires c κs =
     let s = start c.before.before in
     record {
-      size = s.pre.0.size;
-      order = s.pre.0.order;
-      ordinates = rw s.pre.1.count c.before.before.ordinates.ensures;
-      ring = s.pre.1;
-      room = s.pre.2 ∙ s.pre.1.count;
+      size = s.requires.0.size;
+      order = s.requires.0.order;
+      ordinates = rw s.requires.1.count c.ordinates-ys.ensures;
+      ring = s.requires.1;
+      room = s.requires.2 ∙ s.requires.1.count;
     }
 
 -- of a word the answer is the word itself
-returns : tie.Need-returns
+returns : tie.Need-returns-then-is_word
 returns c =
-    let w = c.before.before.before.before in
-    let s = w.before.before.before.before in
-    let word = w.before.is_word.ensures.0 w.if1.true in
-    copied _ _ (sym s.requires.2) c.before.before.copy.ensures.1
+    let w = c in
+    let s = w in
+    let word = w.is_word.ensures.0 w.if-is_word.true in
+    copied _ _ (sym s.requires.2) c.copy.ensures
     ∙ sym (near_answer s.args.q s.requires.0.size s.args.m s.requires.0.order s.args.received.now s.requires.1 0
     (λ h. s.requires.3 (omega (arith, h))) word (omega (arith, none_wrong s.args.q s.args.received.now)))
 
@@ -56,7 +56,7 @@ find_spec =
     (λ c κs. search rules)
     (λ c. search rules)
     returns
-    (λ c κs. c.before.before.before.before.requires.0.size)
+    (λ c κs. c.requires.0.size)
     room
     (λ c. sym (size c.before))
     answer-requires

@@ -7,7 +7,7 @@ use Rattle.codes.specs.Code.{flag}
 use Rattle.scattered.proofs.flag_of.Statement.{statement}
 use Rattle.scattered.proofs.flag_of.Tie as tie
 
-pub flag-of-spec : {M : Type 1} → statement M
-flag-of-spec = tie.close (tie.spec
-    (λ c. sym (ap (λ (b : Bool). flag (not b)) (eq-eqb _ _ c.if1.true)))
-    (λ c. sym (ap (λ (b : Bool). flag (not b)) (ne_eqb _ _ c.if1.false))))
+pub flag_of_spec : {M : Type 1} → statement M
+flag_of_spec = tie.close (tie.spec
+    (λ c. sym (ap (λ (b : Bool). flag (not b)) (eq-eqb _ _ c.if-a-b.true)))
+    (λ c. sym (ap (λ (b : Bool). flag (not b)) (ne_eqb _ _ c.if-a-b.false))))

@@ -13,40 +13,40 @@ use borrow.Author.Rules.{rules}
 use Rattle.scattered.proofs.flag_wrong.Statement.{statement}
 use Rattle.scattered.proofs.flag_wrong.Tie as tie
 
-abbrev invariant-loop : tie.invariant-loop
+abbrev invariant-loop : tie.invariant-loop-i
 invariant-loop v w flags₀ count₀ i₀ flags count i =
     (i ≤ length v) × (length flags ≡ length flags₀) × (count ≤ i) × (count ≡ total (flags_from (wrong_at v w) 0 i))
     × (flags ≡ patch 0 i (λ k. flag (wrong_at v w k)) flags₀)
 
-abbrev decreases-loop : tie.decreases-loop
+abbrev decreases-loop : tie.decreases-loop-i
 decreases-loop v w flags₀ count₀ i₀ flags count i = length v - i
 
-loop-again : tie.Need-loop-preserved invariant-loop decreases-loop
+loop-again : tie.Need-loop-i-preserved invariant-loop decreases-loop
 loop-again c =
-    let turn = c.before.before.before.before.before.loop in
-    let start = c.before.before.before.before.before.before.before.before.before in
+    let turn = c.loop-i in
+    let start = c in
     let f = wrong_at start.args.v.now start.args.w.now in
-    let more : turn.count + c.wide.result ≡ total (flags_from f 0 (turn.i + 1)) =
-    omega (arith, turn.invariant.3, count_more f turn.i, c.wide.ensures, c.before.flag_of_lem.ensures) in (
-      omega (arith, c.before.before.before.before.loop-test.true),
-      length-set turn.flags turn.i c.before.flag_of_lem.result ∙ turn.invariant.1,
+    let more : turn.count + c.wide-count.result ≡ total (flags_from f 0 (turn.i + 1)) =
+    omega (arith, turn.invariant.3, count_more f turn.i, c.wide-count.ensures, c.flag_of-f.ensures) in (
+      omega (arith, c.loop-i-test.true),
+      length-set turn.flags turn.i c.flag_of-f.result ∙ turn.invariant.1,
       omega (arith, more, count_most f 0 (turn.i + 1)),
       more,
-      patch_front turn.i (λ k. flag (f k)) _ turn.invariant.4 c.before.flag_of_lem.ensures,
+      patch_front turn.i (λ k. flag (f k)) _ turn.invariant.4 c.flag_of-f.ensures,
     )
 
 returns : tie.Need-returns invariant-loop decreases-loop
 returns c =
-    let turn = c.before.loop in
-    let start = c.before.before.before.before.before in
+    let turn = c.loop-i in
+    let start = c in
     let f = wrong_at start.args.v.now start.args.w.now in
-    let end : turn.i ≡ length start.args.v.now = omega (arith, turn.invariant.0, c.loop-test.false) in
+    let end : turn.i ≡ length start.args.v.now = omega (arith, turn.invariant.0, c.loop-i-test.false) in
     let written = all_flagged f (length start.args.v.now) start.args.flags.now (turn.invariant.4 ∙ rw end) start.requires.1 in
     (written, turn.invariant.3 ∙ rw (end, ← written))
 
-pub flag-wrong-spec : {M : Type 1} → statement M
+pub flag_wrong_spec : {M : Type 1} → statement M
 unfolding total flags_from
-flag-wrong-spec =
+flag_wrong_spec =
     tie.close
     (tie.spec
     invariant-loop

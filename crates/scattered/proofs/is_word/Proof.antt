@@ -28,19 +28,19 @@ fits q m k size order e =
     omega (arith, e, (ring_counts q m size order).fits, ring_cells q m, (sides q q size refl).most)
 
 -- what the reading is lent
-module _ (c : tie.After-total) where
+module _ (c : tie.After-total-k) where
   abbrev start : tie.Start
   start = c.before.before
 
-  small : c.total.result ≤ 64
-  small = fits start.args.q start.args.m c.total.result start.pre.0.size start.pre.0.order c.total.ensures
+  small : c.total-k.result ≤ 64
+  small = fits start.args.q start.args.m c.total-k.result start.requires.0.size start.requires.0.order c.total-k.ensures
 
-  size : length (take c.total.result blank) ≡ c.total.result
-  size = length-take-le c.total.result blank small
+  size : length (take c.total-k.result blank) ≡ c.total-k.result
+  size = length-take-le c.total-k.result blank small
 
 -- reading is done exactly when the ring is a word
 module _ (c : tie.After-read) where
-  abbrev begun : tie.After-total
+  abbrev begun : tie.After-total-k
   begun = c.before.before
 
   abbrev q : ℕ
@@ -53,30 +53,30 @@ module _ (c : tie.After-read) where
   w = (start begun).args.ring.now
 
   abbrev lent : List ℕ
-  lent = take begun.total.result blank
+  lent = take begun.total-k.result blank
 
   exactly : (meaning c.read.result ≡ meaning Done) ↔ RingWord q m w
   exactly =
-      let (there, back) = read_done q m w lent (left c.read.result c.read.new.1.1.1.0) c.read.ensures in
-      (λ e. (there e).1, λ h. back (reads_on (start begun).pre.0 lent w (start begun).pre.1 (size begun ∙ begun.total.ensures), h))
+      let (there, back) = read_done q m w lent (left c.read.result c.read.new.message) c.read.ensures in
+      (λ e. (there e).1, λ h. back (reads_on (start begun).requires.0 lent w (start begun).requires.1 (size begun ∙ begun.total-k.ensures), h))
 
-returns : tie.Need-returns
-returns c = (λ t. (exactly c.before.before.before).0 (ap meaning c.enum_told.given.1), λ h. refl)
+returns : tie.Need-returns-in-Done
+returns c = (λ t. (exactly c.before.before).0 (ap meaning c.in-Done.is), λ h. refl)
 
-returns-2 : tie.Need-returns-2
+returns-2 : tie.Need-returns-in-Refused
 returns-2 c = (λ t. absurd (true≢false (sym t)), λ h. absurd (other h))
   where
-    other : RingWord (q c.before.before.before) (m c.before.before.before) (w c.before.before.before) → ⊥
+    other : RingWord (q c.before.before) (m c.before.before) (w c.before.before) → ⊥
     other h =
         let e : ◌≡◌ {A = ℕ} 0 1 =
-        ap number_of (sym (ap meaning c.enum-told2.given.1) ∙ (exactly c.before.before.before).1 h) in
+        ap number_of (sym (ap meaning c.in-Refused.is) ∙ (exactly c.before.before).1 h) in
         omega arith
 
-pub is-word-spec : {M : Type 1} → statement M
-is-word-spec =
+pub is_word_spec : {M : Type 1} → statement M
+is_word_spec =
     tie.close
     (tie.spec
-    (λ c κs. c.before.requires.0)
+    (λ c κs. c.requires.0)
     small
     (λ c. sym (size c.before))
     (λ c κs. search rules)

@@ -29,29 +29,29 @@ module _ (s : tie.Start) where
   found = Model.answer s.args.q s.args.m y
 
   short : length y ≤ 64
-  short = omega (arith, s.pre.received.count, (sides s.args.q s.args.q s.pre.ring.size refl).most)
+  short = omega (arith, s.requires.received.count, (sides s.args.q s.args.q s.requires.ring.size refl).most)
 
   -- a part of 64 symbols that is as long as the ring
   size : length (take (length y) blank) ≡ length y
   size = length-take-le (length y) blank short
 
   is_ring : IsRing s.args.q found
-  is_ring = answer_ring s.args.q s.pre.ring.size s.args.m s.pre.ring.order y s.pre.received s.args.limit
-      s.pre.room
+  is_ring = answer_ring s.args.q s.requires.ring.size s.args.m s.requires.ring.order y s.requires.received s.args.limit
+      s.requires.room
 
   as_long : length found ≡ length y
-  as_long = is_ring.count ∙ sym s.pre.received.count
+  as_long = is_ring.count ∙ sym s.requires.received.count
 
 -- what the runs left in the part that they were lent, and that part in its array
 module _ (c : tie.After-find) where
   abbrev start : tie.Start
   start = c.before.before.before.before.before
 
-  own : Front (length (y start)) (c.find.new.1.1.1.0 ++ drop (length (y start)) blank) (found start)
+  own : Front (length (y start)) (c.find.new.own ++ drop (length (y start)) blank) (found start)
   own = given_back (length (y start)) (drop (length (y start)) blank) c.find.ensures (as_long start)
 
 -- the flags of what was found, and how many are 1
-module _ (c : tie.After-flag-wrong) where
+module _ (c : tie.After-flag_wrong-count) where
   abbrev runs : tie.After-find
   runs = c.before.before.before.before
 
@@ -62,25 +62,25 @@ module _ (c : tie.After-flag-wrong) where
   flags = symbol_flags s.args.q (y s) (found s)
 
   abbrev marks : List ℕ
-  marks = c.flag-wrong.new.1.1.0
+  marks = c.flag_wrong-count.new.flags
 
   flagged : marks ≡ flags
-  flagged = c.flag-wrong.ensures.0 ∙ rw ((own runs).is, s.pre.received.count)
+  flagged = c.flag_wrong-count.ensures.0 ∙ rw ((own runs).is, s.requires.received.count)
 
   wrong : Front (length (y s)) (marks ++ drop (length (y s)) blank) flags
   wrong = given_back (length (y s)) (drop (length (y s)) blank) flagged
-      (flags-length _ 0 _ ∙ sym s.pre.received.count)
+      (flags-length _ 0 _ ∙ sym s.requires.received.count)
 
-  counted : c.flag-wrong.result ≡ total flags
-  counted = c.flag-wrong.ensures.1 ∙ ap total flagged
+  counted : c.flag_wrong-count.result ≡ total flags
+  counted = c.flag_wrong-count.ensures.1 ∙ ap total flagged
 
-  few : c.flag-wrong.result ≤ 64
+  few : c.flag_wrong-count.result ≤ 64
   few = omega (
     arith,
     counted,
     count_most (wrong_at (y s) (found s)) 0 (s.args.q * s.args.q * s.args.q),
     short s,
-    s.pre.received.count,
+    s.requires.received.count,
   )
 
 release-requires : tie.Need-release-requires
@@ -96,11 +96,11 @@ returns c =
     let f = j.before.before.before in
     let a = (s f).args in
     settled a.q a.m a.limit (y (s f)) (s f).requires.ring (s f).requires.received (s f).requires.room
-    (buffers a.answer.now a.flags.now) (found (s f)) (flags f) _ refl refl (counted f) j.judge.result _
-    (rw (own (runs f)).is at j.judge.ensures) (rw ((own (runs f)).is, (wrong f).is) at r.release.ensures)
+    (buffers a.answer.now a.flags.now) (found (s f)) (flags f) _ refl refl (counted f) j.judge-ending.result _
+    (rw (own (runs f)).is at j.judge-ending.ensures) (rw ((own (runs f)).is, (wrong f).is) at r.release.ensures)
 
-pub mend-spec : {M : Type 1} → statement M
-mend-spec =
+pub mend_spec : {M : Type 1} → statement M
+mend_spec =
     tie.close
     (tie.spec
     (λ c. short c.before.before.before)
