@@ -18,5 +18,5 @@ returns c =
     least_found (replicate 8 1) _ _ _ some_line (λ j lt. all_marked j (omega (arith, few))) c.pivot.ensures.0 c.pivot.ensures.1
 
 pub least_spec : {M : Type 1} → statement M
-least_spec = tie.close (tie.spec  (λ c κs. search rules)
+least_spec = tie.close (tie.spec (λ c κs. search rules)
     returns)

@@ -49,9 +49,9 @@ loop-again c =
     let pair : List ℕ → List ℕ → List ℕ × List ℕ = λ a b. (a, b) in (
       omega (arith, inside.loop-i-test.true),
       ⊎_elim
-          (λ w. ap₂ pair w.6 w.7 ∙ w.3.ensures ∙ ap (stepped args.degree args.xs.now args.lines turn.loop-i.i) e
-          ∙ sym (run_more _ _ _ _ _ _ w.0.true))
-          (λ w. ap₂ pair w.1 w.2 ∙ e ∙ sym (run_idle _ _ _ _ _ _ w.0.left))
+          (λ w. ap₂ pair w.leads-is w.slots-is ∙ w.step.ensures ∙ ap (stepped args.degree args.xs.now args.lines turn.loop-i.i) e
+          ∙ sym (run_more _ _ _ _ _ _ w.if-used-i-ne0.true))
+          (λ w. ap₂ pair w.leads-is w.slots-is ∙ e ∙ sym (run_idle _ _ _ _ _ _ w.if-used-i-ne0.false))
           c.if-used-i-ne0.branch-raw,
     )
 

@@ -62,12 +62,11 @@ turned-at c = c.before.before.before.before
 abbrev found_at : tie.After-turn → tie.Then-p-lines
 found_at c = c.before.before.before
 
-small : (c : tie.After-leads-1) → let s = entered (found_at (turned-at c)) in
-    let p = c.pivot-p.result in (get_or s.args.leads.now p 0 ≤ 65535) × (s.args.lines ≤ 8) × (p < 8)
+small : (c : tie.After-leads-1-unread) → let p = c.pivot-p.result in
+    (get_or c.args.leads.now p 0 ≤ 65535) × (c.args.lines ≤ 8) × (p < 8)
 small c =
-    let then = found_at (turned-at c) in
-    let pre = (entered then).requires in
-    (pre.low _ then.if-p-lines.true, pre.laid.few, omega (arith, then.if-p-lines.true, pre.laid.few))
+    let pre = c.requires in
+    (pre.low _ c.if-p-lines.true, pre.laid.few, omega (arith, c.if-p-lines.true, pre.laid.few))
 
 returns : tie.Need-returns-then-p-lines
 returns c =

@@ -82,8 +82,8 @@ returns c =
 pub weights_spec : {M : Type 1} → statement M
 weights_spec =
     tie.close
-    (tie.spec  (λ c. few c.before.before.before)
-    (λ c. sym (ones_long c.before.before.before.before))
+    (tie.spec
+    (λ c. few c.before.before.before.before)
     (λ c. search rules)
     solve-requires
     (λ c. omega (arith, few (start c.before)))
