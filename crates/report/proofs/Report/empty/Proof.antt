@@ -4,5 +4,5 @@ use Rattle.report.proofs.Figures.{no_marks}
 use Rattle.report.proofs.Report.empty.Statement.{statement}
 use Rattle.report.proofs.Report.empty.Tie as tie
 
-pub empty-spec : {M : Type 1} → statement M
-empty-spec = tie.close (tie.spec (λ c. no_marks c.args.columns))
+pub empty_spec : {M : Type 1} → statement M
+empty_spec = tie.close (tie.spec (λ c. no_marks c.args.columns))

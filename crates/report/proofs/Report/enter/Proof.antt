@@ -15,26 +15,26 @@ abbrev given : tie.Start → Mark
 given s = mark_of s.args.ending s.args.detail s.args.flags.now
 
 -- where no check applies
-module _ (c : tie.Else1) where
+module _ (c : tie.Else-k-ne0) where
   abbrev start : tie.Start
   start = c.before.before.before
 
   none : 0 ≡ first (enter_checks start.args.self (given start))
-  none = sym c.if1.false ∙ c.before.enter-refusal.ensures
+  none = sym c.if-k-ne0.false ∙ c.enter_refusal-k.ensures
 
-returns : tie.Need-returns
+returns : tie.Need-returns-then-k-ne0
 returns c =
     let s = c.before.before.before in
     let r = s.args.self in
-    (hands_not (enter_checks r (given s)) (Next r (given s)) r c.before.enter-refusal.ensures c.if1.true refl, s.requires)
+    (hands_not (enter_checks r (given s)) (Next r (given s)) r c.enter_refusal-k.ensures c.if-k-ne0.true refl, s.requires)
 
-returns-2 : tie.Need-returns-2
+returns-2 : tie.Need-returns
 returns-2 c =
     let s = start c.before in
     let r = s.args.self in
     let kept = hands (enter_checks r (given s)) (Next r (given s)) r (none c.before)
-    (next (given s) s.pre (none c.before) c.add.ensures) in
-    (kept, made_entered (given s) (record { outcome = Done; report = c.add.result }) s.pre kept)
+    (next (given s) s.requires (none c.before) c.add-report.ensures) in
+    (kept, made_entered (given s) (record { outcome = Done; report = c.add-report.result }) s.requires kept)
 
 pub enter_spec : {M : Type 1} → statement M
 enter_spec = tie.close (tie.spec (λ c κs. search rules) returns (λ c κs. adding (given (start c)) (start c).requires (none c)) returns-2)

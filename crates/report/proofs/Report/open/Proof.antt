@@ -11,21 +11,21 @@ use borrow.Author.Rules.{rules}
 use Rattle.report.proofs.Report.open.Statement.{statement}
 use Rattle.report.proofs.Report.open.Tie as tie
 
-returns : tie.Need-returns
+returns : tie.Need-returns-then-outside
 returns c =
-    let tested = c.before.before in
-    let n = tested.before.args.columns in
-    let three = sym (hit 3 _ [] (sym tested.outside.ensures ∙ c.before.if1.true)) in
-    let kept = hands_not (open_checks n) (λ e. e ≡ figures n []) (figures 1 []) three (λ z. omega arith) c.empty.ensures in
-    (kept, ([], opened n (record { outcome = Refused 3; report = c.empty.result }) kept))
+    let tested = c in
+    let n = tested.args.columns in
+    let three = sym (hit 3 _ [] (sym tested.outside.ensures ∙ c.if-outside.true)) in
+    let kept = hands_not (open_checks n) (λ e. e ≡ figures n []) (figures 1 []) three (λ z. omega arith) c.empty-spare.ensures in
+    (kept, ([], opened n (record { outcome = Refused 3; report = c.empty-spare.result }) kept))
 
-returns-2 : tie.Need-returns-2
+returns-2 : tie.Need-returns
 returns-2 c =
-    let tested = c.before.before in
-    let n = tested.before.args.columns in
-    let none = sym (miss_last 3 _ (sym tested.outside.ensures ∙ c.before.if1.false)) in
-    let kept = hands (open_checks n) (λ e. e ≡ figures n []) (figures 1 []) none c.empty2.ensures in
-    (kept, ([], opened n (record { outcome = Done; report = c.empty2.result }) kept))
+    let tested = c in
+    let n = tested.args.columns in
+    let none = sym (miss_last 3 _ (sym tested.outside.ensures ∙ c.if-outside.false)) in
+    let kept = hands (open_checks n) (λ e. e ≡ figures n []) (figures 1 []) none c.empty-report.ensures in
+    (kept, ([], opened n (record { outcome = Done; report = c.empty-report.result }) kept))
 
 pub open_spec : {M : Type 1} → statement M
 open_spec = tie.close (tie.spec (λ c κs. search rules) (λ c κs. search rules) returns (λ c κs. search rules) returns-2)

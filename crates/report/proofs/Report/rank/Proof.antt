@@ -13,34 +13,34 @@ use Rattle.report.proofs.Report.rank.Statement.{statement}
 use Rattle.report.proofs.Report.rank.Tie as tie
 
 -- where both have corrected marks
-module _ (c : tie.Else3) where
+module _ (c : tie.Else-others-eq0-2) where
   abbrev start : tie.Start
   start = c.before.before.before.before
 
   abbrev own : Report
-  own = start.args.t1
+  own = start.args.self
 
   abbrev other : Report
-  other = start.args.t2
+  other = start.args.other
 
   some : (0 < corrected own) × (0 < corrected other)
-  some = (omega (arith, c.before.if1.false), omega (arith, c.if3.false))
+  some = (omega (arith, c.if-own-eq0.false), omega (arith, c.if-others-eq0-2.false))
 
   fits : own.wrong * corrected other ≤ 96 * 1000000 * 1000000
-  fits = mul-le-mul (wrong_most start.pre.0) (corrected-most start.pre.1)
+  fits = mul-le-mul (wrong_most start.requires.0) (corrected-most start.requires.1)
 
   fits_too : other.wrong * corrected own ≤ 96 * 1000000 * 1000000
-  fits_too = mul-le-mul (wrong_most start.pre.1) (corrected-most start.pre.0)
+  fits_too = mul-le-mul (wrong_most start.requires.1) (corrected-most start.requires.0)
 
-pub rank-spec : {M : Type 1} → statement M
-rank-spec = tie.close (tie.spec
+pub rank_spec : {M : Type 1} → statement M
+rank_spec = tie.close (tie.spec
     (λ c. search rules) (λ c. search rules)
-    (λ c. two_such _ _ c.before.if1.true c.if2.true)
-    (λ c. ranks_swapped _ _ First (comes_last _ _ (omega (arith, c.if2.false)) c.before.if1.true))
-    (λ c. comes_last _ _ (omega (arith, c.before.if1.false)) c.if3.true)
+    (λ c. two_such _ _ c.if-own-eq0.true c.if-others-eq0.true)
+    (λ c. ranks_swapped _ _ First (comes_last _ _ (omega (arith, c.if-others-eq0.false)) c.if-own-eq0.true))
+    (λ c. comes_last _ _ (omega (arith, c.if-own-eq0.false)) c.if-others-eq0-2.true)
     (λ c. omega (arith, fits c))
     (λ c. omega (arith, fits_too c))
-    (λ c. let both = some c.before in (first_exactly _ _ both.0 both.1).1 c.if4.true)
-    (λ c. let both = some c.before.before in ranks_swapped _ _ First ((first_exactly _ _ both.1 both.0).1 c.if5.true))
+    (λ c. let both = some c.before in (first_exactly _ _ both.0 both.1).1 c.if-first-second.true)
+    (λ c. let both = some c.before.before in ranks_swapped _ _ First ((first_exactly _ _ both.1 both.0).1 c.if-second-first.true))
     (λ c. let both = some c.before.before in
-    (equal_exactly _ _ both.0 both.1).1 (omega (arith, c.before.if4.false, c.if5.false))))
+    (equal_exactly _ _ both.0 both.1).1 (omega (arith, c.if-first-second.false, c.if-second-first.false))))

@@ -8,26 +8,26 @@ use Rattle.report.proofs.checks.enter_refusal.Statement.{statement}
 use Rattle.report.proofs.checks.enter_refusal.Tie as tie
 
 -- where there is room for one mark more
-abbrev room : tie.Else2 → tie.Else1
+abbrev room : tie.Else-flags-report → tie.Else-report-ge1000000
 room c = c.before.before
 
-returns : tie.Need-returns
+returns : tie.Need-returns-then-report-ge1000000
 unfolding first
-returns c = simp (le-leb _ _ c.if1.true)
+returns c = simp (le-leb _ _ c.if-report-ge1000000.true)
 
-returns-2 : tie.Need-returns-2
+returns-2 : tie.Need-returns-then-flags-report
 unfolding first
-returns-2 c = simp (lt-leb _ _ c.before.before.if1.false, ne_eqb _ _ c.if2.true)
+returns-2 c = simp (lt-leb _ _ c.if-report-ge1000000.false, ne_eqb _ _ c.if-flags-report.true)
 
-returns-3 : tie.Need-returns-3
+returns-3 : tie.Need-returns-then-bad_mark
 unfolding first
-returns-3 c = let long = c.before.before in
-    simp (lt-leb _ _ (room long).if1.false, eq-eqb _ _ long.if2.false, sym c.before.bad-mark.ensures ∙ c.if3.true)
+returns-3 c = let long = c in
+    simp (lt-leb _ _ long.if-report-ge1000000.false, eq-eqb _ _ long.if-flags-report.false, sym c.bad_mark.ensures ∙ c.if-bad_mark.true)
 
-returns-4 : tie.Need-returns-4
+returns-4 : tie.Need-returns
 unfolding first
-returns-4 c = let long = c.before.before in
-    simp (lt-leb _ _ (room long).if1.false, eq-eqb _ _ long.if2.false, sym c.before.bad-mark.ensures ∙ c.if3.false)
+returns-4 c = let long = c in
+    simp (lt-leb _ _ long.if-report-ge1000000.false, eq-eqb _ _ long.if-flags-report.false, sym c.bad_mark.ensures ∙ c.if-bad_mark.false)
 
-pub enter-refusal-spec : {M : Type 1} → statement M
-enter-refusal-spec = tie.close (tie.spec returns returns-2 (λ c κs. search rules) returns-3 returns-4)
+pub enter_refusal_spec : {M : Type 1} → statement M
+enter_refusal_spec = tie.close (tie.spec returns returns-2 (λ c κs. search rules) returns-3 returns-4)

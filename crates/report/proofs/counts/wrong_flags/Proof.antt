@@ -14,32 +14,32 @@ use borrow.Author.Rules.{rules}
 use Rattle.report.proofs.counts.wrong_flags.Statement.{statement}
 use Rattle.report.proofs.counts.wrong_flags.Tie as tie
 
-abbrev invariant-loop : tie.invariant-loop
+abbrev invariant-loop : tie.invariant-loop-i
 invariant-loop flags sum₀ i₀ sum i = (i ≤ length flags) × (sum ≤ i) × (sum + wrong_flags (drop i flags) ≡ wrong_flags flags)
 
-abbrev decreases-loop : tie.decreases-loop
+abbrev decreases-loop : tie.decreases-loop-i
 decreases-loop flags sum₀ i₀ sum i = length flags - i
 
 -- where a flag is counted
-module _ (c : tie.After-wrong invariant-loop decreases-loop) where
-  abbrev turn : tie.In-loop invariant-loop decreases-loop
+module _ (c : tie.After-wrong-sum invariant-loop decreases-loop) where
+  abbrev turn : tie.In-loop-i invariant-loop decreases-loop
   turn = c.before.before
 
   abbrev flags : List ℕ
-  flags = turn.before.before.before.args.flags.now
+  flags = turn.args.flags.now
 
-  one : c.wrong.result ≤ 1
-  one = omega (arith, c.wrong.ensures, flag-most (eqb (get_or flags turn.before.loop.i 0) 1))
+  one : c.wrong-sum.result ≤ 1
+  one = omega (arith, c.wrong-sum.ensures, flag-most (eqb (get_or flags turn.loop-i.i 0) 1))
 
-  rest : c.wrong.result + wrong_flags (drop (turn.before.loop.i + 1) flags) ≡ wrong_flags (drop turn.before.loop.i flags)
-  rest = omega (arith, c.wrong.ensures, count-drop (λ f. eqb f 1) flags turn.before.loop.i 0 turn.loop-test.taken)
+  rest : c.wrong-sum.result + wrong_flags (drop (turn.loop-i.i + 1) flags) ≡ wrong_flags (drop turn.loop-i.i flags)
+  rest = omega (arith, c.wrong-sum.ensures, count-drop (λ f. eqb f 1) flags turn.loop-i.i 0 turn.loop-i-test.true)
 
 returns : tie.Need-returns invariant-loop decreases-loop
 unfolding count
-returns c = rw (drop_of_length-le _ c.loop-test.false, add-zero) at c.before.loop.invariant.2
+returns c = rw (drop_of_length-le _ c.loop-i-test.false, add-zero) at c.loop-i.invariant.2
 
-pub wrong-flags-spec : {M : Type 1} → statement M
-wrong-flags-spec = tie.close (tie.spec invariant-loop decreases-loop
+pub wrong_flags_spec : {M : Type 1} → statement M
+wrong_flags_spec = tie.close (tie.spec invariant-loop decreases-loop
     (λ c. (omega arith, omega arith, zero-add _))
     (λ c. search rules) (λ c κs. search rules)
     (λ c. omega (arith, one c)) (λ c. search rules) (λ c. search rules)
