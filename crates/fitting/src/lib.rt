@@ -1,4 +1,6 @@
 // Sets of columns tried one after the other: every array that fits.
+#![tactic(auto)]
+
 ghost use Rattle.std.specs.Prelude.{◌≡◌, true, ◌↔◌, [], ◌∷◌, ◌-◌, ◌<◌, ◌≤◌, length, take};
 ghost use Rattle.field.specs.Symbols.{times};
 ghost use Rattle.codes.specs.Code.{CodeArray, code_of, differs, flag, flags_from};

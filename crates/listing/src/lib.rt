@@ -1,4 +1,6 @@
 // Every array that fits: the sets of columns tried, and what fits listed.
+#![tactic(auto)]
+
 ghost use Rattle.std.specs.Prelude.{◌≡◌, List, ℕ, ◌≤◌, length};
 ghost use Rattle.refusal.specs.Refusal.{first};
 ghost use Rattle.codes.specs.Code.{code_of};

@@ -1,5 +1,7 @@
 // Lines that are values only, taken over conditions one after the other. The table is flat: with the points xs, one a condition, line
 // j has its value at condition i in slot xs.len() * j + i. Loops over a line are quickest where it has whole sixteens.
+#![tactic(auto)]
+
 ghost use Rattle.std.specs.Prelude.{◌≡◌, false, ◌+◌, ◌*◌, ◌/◌, ◌≤◌, ◌<◌, length, get_or};
 ghost use Rattle.patch.specs.Patch.{patch};
 ghost use Rattle.pits.specs.Working.Table.{MixingLine, Mixing, Turning, Stepping, Running, Least};

@@ -1,4 +1,6 @@
 // The message lengths of the powers of a row, and the checks of the decoding of powers.
+#![tactic(auto)]
+
 ghost use Rattle.std.specs.Prelude.{◌≡◌, List, [], ◌∷◌, ℕ, length, take};
 ghost use Rattle.refusal.specs.Refusal.{◌when◌, first, is_in, some_outside};
 ghost use Rattle.power_checks.specs.Powers.{power_length, power_lengths};

@@ -1,4 +1,6 @@
 // Hermitian rings: encoding and reading.
+#![tactic(auto)]
+
 ghost use Rattle.std.specs.Prelude.{◌≡◌};
 ghost use Rattle.refusal.specs.Refusal.{first};
 ghost use Rattle.mark.specs.Promises.{left};

@@ -1,4 +1,6 @@
 // Pits scattered over a ring: a decoding that counts wrong symbols.
+#![tactic(auto)]
+
 ghost use Rattle.std.specs.Prelude.{◌≡◌, not, true, ◌↔◌, List, ℕ, ◌+◌, ◌*◌, ◌≤◌, ◌<◌, eqb, length};
 ghost use Rattle.refusal.specs.Refusal.{first};
 ghost use Rattle.codes.specs.Code.{flag, flags_from, total};

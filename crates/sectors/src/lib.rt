@@ -1,4 +1,6 @@
 // Decoding Hermitian rings by their sectors.
+#![tactic(auto)]
+
 ghost use Rattle.std.specs.Prelude.{◌≡◌, List, ℕ};
 ghost use Rattle.refusal.specs.Refusal.{first};
 ghost use Rattle.finish.specs.Working.{released};

@@ -16,15 +16,15 @@
 -- The answer.
 --   answer_tells        an answer's two numbers tell the ending
 -- Assumes nothing.
-use mathlib.Core.Path.{◌≡◌, refl, sym, ap, ◌∙◌, subst}
+use mathlib.Core.Path.{◌≡◌, refl, sym, ap, ◌∙◌}
 use mathlib.Core.Logic.{◌↔◌}
 use mathlib.Core.Bool.{Bool, true, false}
 use mathlib.Core.List.{List, [], ◌∷◌}
 use Prim.Native.Nat.{ℕ, suc, ◌*◌, ◌≤◌, ◌<◌}
 use native.Mathlib.Omega.{arith}
-use lib.ListN.{length, get_or}
+use lib.ListN.{get_or}
 use Rattle.patch.proofs.Parts.{length_part}
-use Rattle.refusal.specs.Refusal.{Check, ◌when◌, first, some_outside_field}
+use Rattle.refusal.specs.Refusal.{◌when◌, first, some_outside_field}
 use Rattle.refusal.specs.Meaning.{detail_of}
 use Rattle.refusal.proofs.Keeping.{told}
 use Rattle.refusal.proofs.Ladders.{hit, first_upto}
@@ -32,9 +32,8 @@ use Rattle.codes.specs.Code.{Code, columns, wrong_count, flags_of, safe_limit}
 use Rattle.codes.specs.Factors.{Description, CodeArrayBy}
 use Rattle.codes.specs.Near.{Nearest, Near, Far}
 use Rattle.codes.specs.Checks.{space_bytes}
-use Rattle.mark.specs.declared.Outcome.{Outcome}
 use Rattle.mark.specs.declared.Outcome.TheVariants as outcomes
-use Rattle.ending.specs.Endings.{Buffers, meaning}
+use Rattle.ending.specs.Endings.{meaning}
 use Rattle.ending.specs.declared.Ending.{Ending}
 use Rattle.ending.specs.declared.Ending.TheVariants.{Refused, Corrected, Nothing}
 use Rattle.ending.proofs.Unique.{meaning_faithful}
@@ -46,7 +45,7 @@ use Rattle.tray.specs.Promises.{answer_of, GivenTray, LeftTray, left_tray, Alone
 use Rattle.tray.specs.Promises.{DecodesTray, alone, cells, received_of, mark_of, checks_tray}
 use Rattle.tray.proofs.Places.{row_within}
 use Rattle.tray.proofs.Single.{own_check as single-check}
-use Rattle.tray.proofs.Filled.{marks, HasPassed, has_passed}
+use Rattle.tray.proofs.Filled.{marks, has_passed}
 
 pub answer_tells : (e e' : Ending) → answer_of e ≡ answer_of e' → e ≡ e'
 answer_tells e e' p = meaning_faithful e e' (ap (λ (a : Answer). a.ending) p) (ap (λ (a : Answer). a.detail) p)

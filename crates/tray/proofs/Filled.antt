@@ -9,23 +9,23 @@
 -- Assumes nothing.
 use mathlib.Core.Path.{◌≡◌, refl, sym, ap, ◌∙◌, subst, subst₂}
 use mathlib.Core.Bool.{Bool}
-use mathlib.Core.List.{List, [], ◌++◌}
+use mathlib.Core.List.{List, ◌++◌}
 use Prim.Native.Nat.{ℕ, zero, suc, ◌+◌, ◌-◌, ◌*◌, ◌≤◌, ◌<◌}
 use native.Mathlib.Nat.{suc-mul, mul-le-mul, mul-le-mul_right}
 use native.Mathlib.Decide.{ℕ_discrete}
 use native.Mathlib.Omega.{arith}
 use lib.Dec.{eqb, ltb}
-use lib.ListN.{length, get_or, take, drop, set, length-set}
+use lib.ListN.{length, take, drop, set, length-set}
 use lib.Seq.{get_or-set_same, get_or-set_other}
 use borrow.Author.Tests.{ltb-false, eq-eqb, ne_eqb}
-use Rattle.patch.specs.Parts.{part, lay}
+use Rattle.patch.specs.Parts.{part}
 use Rattle.patch.proofs.Parts.{length_part, length-lay}
-use Rattle.refusal.specs.Refusal.{first, outside}
+use Rattle.refusal.specs.Refusal.{first}
 use Rattle.refusal.proofs.Laws.{within}
 use Rattle.refusal.proofs.Ladders.{clear}
 use Rattle.refusal.proofs.Keeping.{does, refuses}
 use Rattle.field.proofs.Instance.{field}
-use Rattle.codes.specs.Code.{columns, rows, joint_limit}
+use Rattle.codes.specs.Code.{columns, joint_limit}
 use Rattle.codes.specs.Factors.{Description}
 use Rattle.codes.specs.Checks.{wrong_length, space_bytes}
 use Rattle.codes.proofs.Proper.{neither, lengths_test, proper}
@@ -38,7 +38,7 @@ use Rattle.ending.specs.declared.Ending.TheVariants.{Nothing}
 use Rattle.joint.specs.Promises.{Decodes, buffers, given, left, cleared}
 use Rattle.joint.proofs.Cleared.{cleared-length, cleared_same}
 use Rattle.tray.specs.declared.Answer.{Answer}
-use Rattle.tray.specs.Promises.{answer_of, GivenTray, LeftTray, left_tray, Alone, Fills}
+use Rattle.tray.specs.Promises.{answer_of, GivenTray, left_tray, Alone, Fills}
 use Rattle.tray.specs.Promises.{DecodesTray, alone, cells, received_of, mark_of, tray_checks, checks_tray}
 use Rattle.tray.specs.Working.{Common, Shared, Begun, Opened, cleared_if, marks_of, outcome_of, Decoded, Lies, Marked}
 use Rattle.tray.proofs.Places.{row_within, row_laid, other_rows, lent_row, row_back}

@@ -6,9 +6,7 @@ use mathlib.Core.Path.{◌≡◌, sym, ap, ◌∙◌}
 use mathlib.Core.List.{List}
 use Prim.Native.Nat.{ℕ, ◌<◌}
 use native.Mathlib.Omega.{arith}
-use lib.ListN.{length}
 use lib.Seq.{ext_get_or}
-use Rattle.refusal.specs.Refusal.{first}
 use Rattle.refusal.proofs.Keeping as keeping
 use Rattle.codes.specs.Code.{columns}
 use Rattle.mark.specs.declared.Outcome.TheVariants.{Done, Refused}

@@ -12,7 +12,7 @@
 --   Decoded D τ y lent e left   the decoding of y, in whatever space, ends as e and turns the buffers lent into left
 --   Lies D τ k y b w      mark k lies in the lent slices, its place is a small number, and the space has what all marks share
 --   Marked D τ k y b w a b' w'    the decoding of mark k answers a and turns the buffers b of all marks into b', and the space w into w'
-use Rattle.std.specs.Prelude.{◌≡◌, Bool, false, cond, List, [], ℕ, zero, suc, ◌+◌, ◌*◌, ◌≤◌, ◌<◌, eqb, length, drop}
+use Rattle.std.specs.Prelude.{◌≡◌, Bool, false, cond, List, ℕ, zero, suc, ◌+◌, ◌*◌, ◌≤◌, ◌<◌, eqb, length, drop}
 use Rattle.patch.specs.Parts.{part, lay}
 use Rattle.field.specs.Working.Tables.{table_bytes, IsTable}
 use Rattle.rows.specs.Working.Rows.{Inverses}

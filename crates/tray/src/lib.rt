@@ -1,4 +1,6 @@
 // A tray: up to 64 marks of one code, decoded in one call.
+#![tactic(auto)]
+
 ghost use Rattle.std.specs.Prelude.{◌≡◌, false, List, [], ℕ, ◌+◌, ◌*◌, ◌≤◌, length};
 ghost use Rattle.refusal.specs.Refusal.{first, some_outside_field};
 ghost use Rattle.refusal.specs.Meaning.{packed};

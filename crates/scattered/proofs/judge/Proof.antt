@@ -1,6 +1,6 @@
 -- `scattered::judge` finds words within the limit corrected, and nothing else.
 -- Assumes nothing.
-use mathlib.Core.Path.{◌≡◌, refl, sym, ◌∙◌}
+use mathlib.Core.Path.{refl, sym, ◌∙◌}
 use mathlib.Core.Logic.{inl, inr}
 use mathlib.Core.Bool.{true≢false}
 use borrow.Author.Rules.{rules}

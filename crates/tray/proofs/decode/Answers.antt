@@ -1,5 +1,5 @@
 -- `decode` fills the answers one mark after another.
-use Rattle.std.proofs.Common.{◌≡◌, ◌<◌, ℕ, List, arith, length, refl, subst, sym}
+use Rattle.std.proofs.Common.{◌≡◌, ◌<◌, ℕ, arith, length, refl, subst, sym}
 use Rattle.refusal.specs.Refusal.{first}
 use Rattle.codes.specs.Factors.{description_of}
 use Rattle.joint.specs.Promises.{buffers}

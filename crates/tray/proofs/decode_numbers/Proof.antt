@@ -14,8 +14,8 @@ use Rattle.ending.specs.Endings.{Buffers, meaning}
 use Rattle.ending.specs.declared.Ending.{Ending}
 use Rattle.joint.specs.Promises.{buffers}
 use Rattle.tray.specs.declared.Answer.{Answer}
-use Rattle.tray.specs.Promises.{answer_of, GivenTray, given_tray, left_tray, checks_tray, DecodesTray}
-use Rattle.tray.specs.Working.{Opened, marks_of, Lies, Marked}
+use Rattle.tray.specs.Promises.{answer_of, GivenTray, given_tray, checks_tray}
+use Rattle.tray.specs.Working.{Opened, marks_of, Lies}
 use Rattle.tray.proofs.Filled.{Held, held_sizes, held_first, below_marks, held_lies, held_next, held_last}
 use borrow.Author.Rules.{rules}
 use Rattle.tray.proofs.decode_numbers.Statement.{statement}

@@ -1,6 +1,6 @@
 -- `end_mark` refuses a mark with 7, or has it decoded.
 -- Assumes nothing.
-use mathlib.Core.Path.{◌≡◌, sym, ◌∙◌}
+use mathlib.Core.Path.{sym, ◌∙◌}
 use Rattle.codes.specs.Factors.{Description, description_of}
 use Rattle.ending.specs.Endings.{Buffers}
 use Rattle.joint.specs.Promises.{buffers}

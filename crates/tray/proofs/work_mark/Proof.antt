@@ -1,8 +1,8 @@
 -- `work_mark` lends the single decoder what the space has for all marks, and a room of its own.
 -- Assumes nothing.
-use mathlib.Core.Path.{◌≡◌, sym, ap, ◌∙◌, subst}
+use mathlib.Core.Path.{◌≡◌, sym, ◌∙◌, subst}
 use mathlib.Core.List.{List}
-use Prim.Native.Nat.{ℕ, ◌≤◌}
+use Prim.Native.Nat.{ℕ}
 use native.Mathlib.Omega.{arith}
 use lib.ListN.{length, take, replicate}
 use lib.Seq.{length-take-le, take_all}
@@ -10,8 +10,7 @@ use Rattle.patch.proofs.Parts.{take-lay}
 use Rattle.field.specs.Working.Tables.{table_bytes, IsTable}
 use Rattle.rows.specs.Working.Rows.{Inverses}
 use Rattle.codes.specs.Code.{largest}
-use Rattle.codes.specs.Factors.{Description, description_of}
-use Rattle.ending.specs.Endings.{Buffers}
+use Rattle.codes.specs.Factors.{description_of}
 use Rattle.joint.specs.Promises.{buffers}
 use Rattle.conditions.specs.Working.{most_inverses}
 use Rattle.tray.specs.Working.{table_of}

@@ -1,6 +1,6 @@
 -- `checks::unchecked` answers its test: of the message lengths the first is judged.
 -- Assumes nothing.
-use mathlib.Core.Path.{sym, ◌∙◌}
+use mathlib.Core.Path.{sym}
 use Prim.Native.Nat.{◌<◌}
 use native.Mathlib.Omega.{arith}
 use Rattle.hermitian.proofs.Sizes.{Sides, sides, each, first_judged}

@@ -30,7 +30,7 @@ returns-2 c = rw (four _ c.if-q-eq2.false (sizes _ c.requires)) (rw c.copy-else-
 pub ordinates_spec : {M : Type 1} → statement M
 ordinates_spec =
     tie.close
-    (tie.spec  (λ c. search rules)
+    (tie.spec (λ c. search rules)
     (λ c κs. search rules)
     (λ c. search rules)
     (λ c κs. search rules)
