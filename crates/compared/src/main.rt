@@ -26,8 +26,9 @@
 
 ghost use Rattle.std.specs.Prelude.{◌≡◌, ◌+◌, ◌<◌, ◌≤◌, length};
 
+use reading::read_full;
 use std::io;
-use std::io::{BufWriter, ErrorKind, Read, Write};
+use std::io::{BufWriter, Write};
 
 // A number of two bytes.
 fn two(low: u8, high: u8) -> u32 {
@@ -98,7 +99,13 @@ fn blank(out: &mut impl Write) -> io::Result<()> {
     write!(out, " ")
 }
 
-fn show(out: &mut impl Write, answer: u32, res: &[u8], flags: &[u8], space: &[u8]) -> io::Result<()> {
+fn show(
+    out: &mut impl Write,
+    answer: u32,
+    res: &[u8],
+    flags: &[u8],
+    space: &[u8],
+) -> io::Result<()> {
     write!(out, "{answer}")?;
     blank(out)?;
     show_symbols(out, res)?;
@@ -276,21 +283,12 @@ fn run(out: &mut impl Write, frame: &[u8]) -> io::Result<()>
     lent(out, frame, &mut result, &mut flags, &mut space)
 }
 
-// Fills the buffer, and answers whether there was so much.
-fn fill(input: &mut impl Read, buf: &mut [u8]) -> io::Result<bool> {
-    match input.read_exact(buf) {
-        Ok(()) => Ok(true),
-        Err(e) if e.kind() == ErrorKind::UnexpectedEof => Ok(false),
-        Err(e) => Err(e),
-    }
-}
-
 fn main(rt: HostRuntime) -> io::Result<()> {
     let mut input = rt.stdin();
     let mut out = BufWriter::new(rt.alloc(), rt.stdout())?;
     for _ in 0..u64::MAX {
         let mut frame = [0u8; 610];
-        if !fill(&mut input, &mut frame)? {
+        if read_full(&mut input, &mut frame)? < 610 {
             break;
         }
         run(&mut out, &frame)?;

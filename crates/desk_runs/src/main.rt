@@ -17,8 +17,9 @@ ghost use Rattle.desk.specs.Desk.{Made};
 
 use desk::Desk;
 use mark::Outcome;
+use reading::read_full;
 use std::io;
-use std::io::{ErrorKind, Read, Write};
+use std::io::Write;
 
 // Writes the line of a call, and hands the desk back.
 fn show(out: &mut impl Write, outcome: Outcome, desk: Desk) -> io::Result<Desk>
@@ -66,15 +67,6 @@ fn step(out: &mut impl Write, desk: Desk, frame: &[u8]) -> io::Result<Desk>
     show(out, put.outcome, put.desk)
 }
 
-// Fills the buffer, and answers whether there was so much.
-fn fill(input: &mut impl Read, buf: &mut [u8]) -> io::Result<bool> {
-    match input.read_exact(buf) {
-        Ok(()) => Ok(true),
-        Err(e) if e.kind() == ErrorKind::UnexpectedEof => Ok(false),
-        Err(e) => Err(e),
-    }
-}
-
 fn main(rt: HostRuntime) -> io::Result<()> {
     let mut input = rt.stdin();
     let mut out = rt.stdout();
@@ -85,7 +77,7 @@ fn main(rt: HostRuntime) -> io::Result<()> {
     let mut desk = opened.desk;
     for _ in 0..u64::MAX {
         let mut frame = [0u8; 53];
-        if !fill(&mut input, &mut frame)? {
+        if read_full(&mut input, &mut frame)? < 53 {
             break;
         }
         desk = step(&mut out, desk, &frame)?;

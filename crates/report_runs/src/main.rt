@@ -16,10 +16,10 @@ ghost use Rattle.std.specs.Prelude.{◌≡◌, ◌≤◌, length, IfOk};
 ghost use Rattle.report.specs.Report.{Made};
 
 use mark::Outcome;
+use reading::read_full;
 use report::{Entered, Ranking, Report};
-use std::io;
-use std::io::{ErrorKind, Read, Write};
-use std::mem;
+use std::io::Write;
+use std::{io, mem};
 
 // Writes what stands before a number, and the number.
 fn print(out: &mut impl Write, before: &str, n: usize) -> io::Result<()> {
@@ -116,15 +116,6 @@ fn step(out: &mut impl Write, report: Report, frame: &[u8]) -> io::Result<Report
     show(out, entered.outcome, entered.report)
 }
 
-// Fills the buffer, and answers whether there was so much.
-fn fill(input: &mut impl Read, buf: &mut [u8]) -> io::Result<bool> {
-    match input.read_exact(buf) {
-        Ok(()) => Ok(true),
-        Err(e) if e.kind() == ErrorKind::UnexpectedEof => Ok(false),
-        Err(e) => Err(e),
-    }
-}
-
 fn main(rt: HostRuntime) -> io::Result<()> {
     let mut input = rt.stdin();
     let mut out = rt.stdout();
@@ -133,7 +124,7 @@ fn main(rt: HostRuntime) -> io::Result<()> {
     let mut other = own;
     for _ in 0..u64::MAX {
         let mut frame = [0u8; 114];
-        if !fill(&mut input, &mut frame)? {
+        if read_full(&mut input, &mut frame)? < 114 {
             break;
         }
         if frame[0] < 2 {
