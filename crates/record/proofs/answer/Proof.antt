@@ -6,14 +6,14 @@ use Prim.Native.Nat.{ℕ, ◌≤◌}
 use native.Mathlib.Omega.{arith}
 use lib.ListN.{length}
 use lib.Seq.{length-take-le}
-use Rattle.io.specs.Counts.{IsPrefixLen}
+use Rattle.record.specs.Counts.{Counts}
 use Rattle.record.specs.Promises.{fresh}
 use Rattle.record.proofs.Replies.{answers_end, answers_stop, answers_next}
 use borrow.Author.Rules.{rules}
 use Rattle.record.proofs.answer.Statement.{statement}
 use Rattle.record.proofs.answer.Tie as tie
 
-counts : (r : ℕ) (l : List ℕ) → r ≤ length l → IsPrefixLen r l
+counts : (r : ℕ) (l : List ℕ) → r ≤ length l → Counts r l
 counts r l h = (h, sym (length-take-le r l h))
 
 abbrev start : tie.After-stop → tie.Start
