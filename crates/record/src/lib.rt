@@ -1,4 +1,6 @@
 // Records: one parsed, decoded, and its line written, all on slices.
+#![tactic(auto)]
+
 pub mod parts;
 pub mod text;
 

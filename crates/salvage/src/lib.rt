@@ -1,4 +1,6 @@
 // Salvaging a file of records: what stands at the front of the bytes that are left of it, all on slices.
+#![tactic(auto)]
+
 mod text;
 
 ghost use Rattle.std.specs.Prelude.{◌++◌, ◌+◌, ◌≤◌, length};

@@ -28,8 +28,9 @@ loop-preserved g c =
     let left = put_mid from room c.loop.buf c.read.new.buf in
     let front = take-put_mid_below _ _ _ _ _ (le_refl _) within in
     elim c.match-read.branch [
-      in-Ok w ↦
-        let part = range_put from room w.in-Ok.n c.loop.buf c.read.new.buf within w.in-Ok.ensures.bound.0 in
-        let joined = take_split from (from + w.in-Ok.n) c.loop.buf left (omega arith) front in
-        (search rules, search rules, subst (Consumes _ _) (ap (λ l. take from c.loop.buf ++ l) (sym part) ∙ joined ∙ ap (λ n. take n left) (sym w.done-is)) (Consumes-trans _ _ _ _ _ c.loop.invariant.2 w.in-Ok.ensures.bytes.0))
-    | in-Err w ↦ (search rules, search rules, subst (Consumes _ _) (sym front ∙ ap (λ n. take n left) (sym w.done-is)) (Consumes-kept _ _ _ _ c.loop.invariant.2 w.in-Err.ensures.bytes)) ]
+      | in-Ok w ↦
+          let part = range_put from room w.in-Ok.n c.loop.buf c.read.new.buf within w.in-Ok.ensures.bound.0 in
+          let joined = take_split from (from + w.in-Ok.n) c.loop.buf left (omega arith) front in
+          (search rules, search rules, subst (Consumes _ _) (ap (λ l. take from c.loop.buf ++ l) (sym part) ∙ joined ∙ ap (λ n. take n left) (sym w.done-is)) (Consumes-trans _ _ _ _ _ c.loop.invariant.2 w.in-Ok.ensures.bytes.0))
+      | in-Err w ↦ (search rules, search rules, subst (Consumes _ _) (sym front ∙ ap (λ n. take n left) (sym w.done-is)) (Consumes-kept _ _ _ _ c.loop.invariant.2 w.in-Err.ensures.bytes))
+    ]
