@@ -1,36 +1,26 @@
 -- A read that gave bytes puts them behind those that are there, and an interrupted one leaves them.
-use Rattle.std.proofs.Common.{rules, arith, ◌≡◌, ℕ, ◌+◌, ◌-◌, ◌≤◌, List, ◌++◌, length, take, slice_range, sym, ap, ◌∙◌, subst, le_refl, drop_at, length-take-le}
+use Rattle.std.proofs.Common.{rules, arith, ◌-◌, length, take, sym, ap, ◌∙◌, subst, le_refl}
 use Rattle.std.proofs.lemmas.Slice.{take-put_mid_below}
 use Rattle.std.specs.Io.KnownBytes.{Consumes}
 use Rattle.std.proofs.KnownBytes.{Consumes-trans, Consumes-kept}
 use borrow.Rule.Slice.PartMut.{put_mid, post_of}
-use lib.Seq.{take-add, take-append-le}
+use Rattle.reading.proofs.Placed.{front_then}
 use Rattle.reading.proofs.read_full.Goals as goal
 use Rattle.reading.proofs.read_full.Goals.{in-Ok, in-Err}
-
-take_split : (a b : ℕ) (old new : List ℕ) → a ≤ b → take a new ≡ take a old → take a old ++ slice_range new a b ≡ take b new
-take_split a b old new h front =
-    let same : a + (b - a) ≡ b = omega arith in
-    ap (λ l. l ++ slice_range new a b) (sym front) ∙ sym (take-add a (b - a) new) ∙ ap (λ n. take n new) same
-
-range_put : (a k n : ℕ) (xs ys : List ℕ) → a ≤ length xs → n ≤ length ys → slice_range (put_mid a k xs ys) a (a + n) ≡ take n ys
-range_put a k n xs ys within fits =
-    let same : (a + n) - a ≡ n = omega arith in
-    let after = post_of a k xs in
-    ap (take ((a + n) - a)) (drop_at (take a xs) (ys ++ after) a (length-take-le a xs within))
-    ∙ ap (λ m. take m (ys ++ after)) same ∙ take-append-le n ys after fits
 
 pub loop-preserved : goal.loop-preserved
 loop-preserved g c =
     let from = c.loop.done in
-    let room = length c.loop.buf - from in
+    let buf = c.loop.buf in
+    let room = length buf - from in
+    let got = c.read.new.buf in
+    let left = put_mid from room buf got in
     let within = c.loop.invariant.1 in
-    let left = put_mid from room c.loop.buf c.read.new.buf in
-    let front = take-put_mid_below _ _ _ _ _ (le_refl _) within in
+    let before = c.loop.invariant.2 in
     elim c.match-read.branch [
-      | in-Ok w ↦
-          let part = range_put from room w.in-Ok.n c.loop.buf c.read.new.buf within w.in-Ok.ensures.bound.0 in
-          let joined = take_split from (from + w.in-Ok.n) c.loop.buf left (omega arith) front in
-          (search rules, search rules, subst (Consumes _ _) (ap (λ l. take from c.loop.buf ++ l) (sym part) ∙ joined ∙ ap (λ n. take n left) (sym w.done-is)) (Consumes-trans _ _ _ _ _ c.loop.invariant.2 w.in-Ok.ensures.bytes.0))
-      | in-Err w ↦ (search rules, search rules, subst (Consumes _ _) (sym front ∙ ap (λ n. take n left) (sym w.done-is)) (Consumes-kept _ _ _ _ c.loop.invariant.2 w.in-Err.ensures.bytes))
-    ]
+      in-Ok w ↦ (search rules, search rules, subst (Consumes _ _)
+        (sym (ap (λ n. take n left) w.done-is ∙ front_then buf got (post_of from room buf) from w.in-Ok.n within w.in-Ok.ensures.bound.0))
+        (Consumes-trans _ _ _ _ _ before w.in-Ok.ensures.bytes.0))
+    | in-Err w ↦ (search rules, search rules, subst (Consumes _ _)
+        (sym (ap (λ n. take n left) w.done-is ∙ take-put_mid_below _ _ _ _ _ (le_refl _) within))
+        (Consumes-kept _ _ _ _ before w.in-Err.ensures.bytes)) ]
