@@ -6,35 +6,20 @@
 use mathlib.Core.Path.{◌≡◌, refl, sym, ap, ◌∙◌, subst}
 use mathlib.Core.Logic.{◌⊎◌, inl, inr}
 use mathlib.Core.Bool.{true, false}
-use mathlib.Core.List.{List, [], ◌∷◌, ◌++◌, append_assoc, append-nil}
-use Prim.Native.Nat.{ℕ, suc, ◌+◌, ◌^◌, ◌≤◌, ◌<◌}
+use mathlib.Core.List.{List, [], ◌++◌, append_assoc}
+use Prim.Native.Nat.{ℕ, suc, ◌+◌, ◌-◌, ◌^◌, ◌≤◌, ◌<◌}
 use native.Mathlib.Decide.{dec_lt}
 use native.Mathlib.Omega.{arith}
 use lib.ListN.{length, take, length-append}
 use Rattle.std.proofs.Common.{None, Some}
-use Rattle.core.specs.declared.option.Option.{Option}
+use Rattle.std.specs.declared.option.Option.{Option}
 use Rattle.std.specs.Io.KnownBytes.{Appends, Consumes, IsAtEnd}
 use Rattle.std.proofs.KnownBytes.{Appends-nil, Appends-trans}
-use Rattle.refusal.specs.Meaning.{number_of}
-use Rattle.refusal.proofs.Keeping.{told}
-use Rattle.record.specs.Records.{stop_checks, wanted}
-use Rattle.record.specs.Promises.{Answers, Prints, meaning}
+use Rattle.record.specs.Records.{wanted}
+use Rattle.record.specs.Promises.{Answers, Prints}
 use Rattle.record.specs.declared.Reply.TheVariants.{End, Last, Next}
-use Rattle.record.proofs.Replies.{Line, stopped}
-use Rattle.record.proofs.Printed.{prints_end, prints_last, prints_next}
-use Rattle.records.specs.Printing.{Goes, Answered, Reached, At, Printed}
-
--- only of no bytes at all there is no line
-none_held : (number : ℕ) (p lent left : List ℕ) → Answers number p lent End left → p ≡ []
-none_held number [] lent left h = refl
-none_held number (x ∷ p) lent left h =
-    absurd (told (stop_checks (x ∷ p)) (stopped number lent) (Line number lent (x ∷ p)) (meaning End, left) h
-    (λ none (line, is, e). omega (arith, ap (λ l. number_of l.0) e))
-    (λ k e d. omega (arith, ap (λ l. number_of l.0) d)))
-
-some_held : (number n : ℕ) (p lent left : List ℕ) → Answers number p lent (Next n) left → 1 ≤ length p
-some_held number n [] lent left h = absurd (omega (arith, ap number_of h.0))
-some_held number n (x ∷ p) lent left h = omega arith
+use Rattle.record.proofs.Printed.{none_answered, some_answered, prints_end, prints_last, prints_next}
+use Rattle.records.specs.Printing.{Answered, At, Printed}
 
 -- as many bytes are held as are wanted, or all
 enough : (p rest : List ℕ) → (length p < wanted p → rest ≡ []) → (wanted p ≤ length p) ⊎ (rest ≡ [])
@@ -50,7 +35,7 @@ unfolding wanted
 answered_end number None has was p lent left read all h = tt
 answered_end number (Some b) None was p lent left read all h = absurd read
 answered_end number (Some b) (Some rest) was p lent left read all h =
-    let none : p ≡ [] = none_held number p lent left h in
+    let none : p ≡ [] = none_answered number p lent left h in
     let short : length p < wanted p = rw none (omega arith) in
     let over : b ≡ [] = read ∙ ap (λ l. l ++ rest) none ∙ all short in
     (rest, [], refl, Appends-nil was, subst (λ l. Prints number l []) (sym over) (prints_end number))
@@ -83,7 +68,7 @@ module _ (number n : ℕ) (had has was now : Option (List ℕ)) (p lent left : L
         refl,
         put,
         (
-          omega (arith, ap length read, length-append p rest, some_held number n p lent left h),
+          omega (arith, ap length read, length-append p rest, some_answered number n p lent left h),
           λ out more. subst (λ l. Prints number l (take n left ++ out)) (sym read) (prints_next number n lent left room p rest out few h more),
         ),
       )
@@ -100,8 +85,10 @@ Some_is {b} e = ap (λ (o : Option (List ℕ)). known o b) e
     known (Some c) b = c
 
 module _ (number : ℕ) (had has next was now then : Option (List ℕ)) where
-  pub at_next : At number had has was now → Answered number has next now then true → At (suc number) had next was then
-  at_next = by had has
+  pub at_next : At number had has was now → Answered number has next now then true → At (number + 1) had next was then
+  at_next h g =
+      let same : suc number ≡ number + 1 = omega arith in
+      subst (λ (n : ℕ). At n had next was then) same (by had has h g)
     where
       by : (had has : Option (List ℕ)) → At number had has was now → Answered number has next now then true → At (suc number) had next was then
       by None has h g = tt
@@ -109,15 +96,15 @@ module _ (number : ℕ) (had has next was now then : Option (List ℕ)) where
         where
           none_some : ◌≡◌ {A = Option (List ℕ)} None (Some left) → ⊥
           none_some e = cc
-      by (Some b) (Some c) (left, lines, is, put, so) (left', line, is', put', less, goes) =
+      by (Some b) (Some c) (left, lines, is, put, so) (left', line, is', put', goes) =
           let same : c ≡ left = Some_is is in (
             left',
             lines ++ line,
             is',
             Appends-trans was now then lines line put put',
             (
-              omega (arith, so.0, less, ap length same),
-              λ rest h. subst (Prints 1 b) (sym (append_assoc lines line rest)) (so.1 (line ++ rest) (subst (λ l. Prints number l (line ++ rest)) same (goes rest h))),
+              omega (arith, so.0, goes.0, ap length same),
+              λ rest h. subst (Prints 1 b) (sym (append_assoc lines line rest)) (so.1 (line ++ rest) (subst (λ l. Prints number l (line ++ rest)) same (goes.1 rest h))),
             ),
           )
 

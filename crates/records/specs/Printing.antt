@@ -7,7 +7,7 @@
 --   Printed had was now             the lines of all the bytes that the reader had are written
 use Rattle.std.specs.Prelude.{◌≡◌, Bool, true, false, List, ◌++◌, ℕ, suc, ◌+◌, ◌^◌, ◌<◌, ◌≤◌, length, None, Some, ⊤}
 use Rattle.std.specs.Io.KnownBytes.{Appends}
-use Rattle.core.specs.declared.option.Option.{Option}
+use Rattle.std.specs.declared.option.Option.{Option}
 use Rattle.record.specs.Promises.{Prints}
 
 abbrev pub Goes : (number : ℕ) (b left line : List ℕ) → Bool → Type 0

@@ -4,10 +4,10 @@ use Rattle.std.specs.Io.KnownBytes.{Consumes}
 use Rattle.records.specs.Held.{Held}
 use Rattle.records.proofs.next_record.Given as goal
 
-abbrev pub invariant-loop : goal.invariant-loop
-invariant-loop g l =
+abbrev pub invariant-loop-got : goal.invariant-loop-got
+invariant-loop-got g l =
     (length l.held ≡ length l.initial.held) × Held l.held l.got
     × Consumes (g.R.Read.remaining l.initial.input) (g.R.Read.remaining l.input) (take l.got l.held)
 
-abbrev pub decreases-loop : goal.decreases-loop
-decreases-loop g l = 490 - l.got
+abbrev pub decreases-loop-got : goal.decreases-loop-got
+decreases-loop-got g l = 490 - l.got
