@@ -30,7 +30,7 @@ use Rattle.record.specs.Promises.{fresh}
 use Rattle.record.specs.Working.{Puts, PutsWithin, Decoded}
 use Rattle.record.proofs.Heads.{sizes_of}
 use Rattle.record.proofs.Wholes.{Whole, whole_of}
-use Rattle.salvage.specs.Pieces.{Piece, kept, skipped, rewritten, piece_of, AtFront}
+use Rattle.salvage.specs.Pieces.{Piece, skipped, rewritten, piece_of, AtFront}
 use Rattle.salvage.specs.Listing.{changes, line_of, lines_from}
 use Rattle.salvage.specs.Promises.{Rooms, rooms, meaning, told, Finds, Lists}
 use Rattle.salvage.specs.Working.{head, kept_with, Keepable, Told, Decided}

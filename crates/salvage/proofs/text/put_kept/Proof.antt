@@ -16,7 +16,7 @@ returns c = let t = c.put_text in
     behind two (short {m = 1} t.ensures (le_refl _)) s.requires.1
 
 pub put_kept_spec : {M : Type 1} → statement M
-put_kept_spec = tie.close (tie.spec  (λ c κs. search rules)
+put_kept_spec = tie.close (tie.spec (λ c κs. search rules)
     (λ c κs. search rules)
     (λ c κs. search rules)
     (λ c. search rules)
