@@ -18,9 +18,18 @@ loop-preserved g c =
     let within = c.loop.invariant.1 in
     let before = c.loop.invariant.2 in
     elim c.match-read.branch [
-      in-Ok w ↦ (search rules, search rules, subst (Consumes _ _)
-        (sym (ap (λ n. take n left) w.done-is ∙ front_then buf got (post_of from room buf) from w.in-Ok.n within w.in-Ok.ensures.bound.0))
-        (Consumes-trans _ _ _ _ _ before w.in-Ok.ensures.bytes.0))
-    | in-Err w ↦ (search rules, search rules, subst (Consumes _ _)
-        (sym (ap (λ n. take n left) w.done-is ∙ take-put_mid_below _ _ _ _ _ (le_refl _) within))
-        (Consumes-kept _ _ _ _ before w.in-Err.ensures.bytes)) ]
+      | in-Ok w ↦ (
+        search rules,
+        search rules,
+        subst (Consumes _ _)
+            (sym (ap (λ n. take n left) w.done-is ∙ front_then buf got (post_of from room buf) from w.in-Ok.n within w.in-Ok.ensures.bound.0))
+            (Consumes-trans _ _ _ _ _ before w.in-Ok.ensures.bytes.0),
+      )
+      | in-Err w ↦ (
+        search rules,
+        search rules,
+        subst (Consumes _ _)
+            (sym (ap (λ n. take n left) w.done-is ∙ take-put_mid_below _ _ _ _ _ (le_refl _) within))
+            (Consumes-kept _ _ _ _ before w.in-Err.ensures.bytes),
+      )
+    ]
