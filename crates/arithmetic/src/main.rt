@@ -1,15 +1,16 @@
 // Works out sums, products and quotients. Three bytes on standard input, a degree and two symbols, give a line with the three
 // answers; a refusal is `!` and its number. What it writes is held to the answers of another program (tests/second).
-use field::Value;
-use libc::{STDIN_FILENO, STDOUT_FILENO};
+#![tactic(auto)]
 
-fn show(v: Value) -> bool {
+use field::Value;
+use reading::read_full;
+use std::io;
+use std::io::{Read, Write};
+
+fn show(out: &mut impl Write, v: Value) -> io::Result<()> {
     match v {
-        Value::Symbol(s) => io::print_decimal(STDOUT_FILENO, s as u64),
-        Value::Refused(k) => {
-            io::write_all(STDOUT_FILENO, b"!");
-            io::print_decimal(STDOUT_FILENO, k as u64)
-        }
+        Value::Symbol(s) => write!(out, "{s}"),
+        Value::Refused(k) => write!(out, "!{k}"),
     }
 }
 
@@ -17,27 +18,31 @@ fn wide(x: u8) -> u32 {
     x as u32
 }
 
-// Answers the next three bytes, and whether they were there and the line was written.
-fn next_line() -> bool {
+// Answers the next three bytes, and whether they were there.
+fn next_line(input: &mut impl Read, out: &mut impl Write) -> io::Result<bool> {
     let mut given = [0u8; 3];
-    let got = io::read_full(STDIN_FILENO, &mut given);
-    if got < 3 {
-        return false;
+    if read_full(input, &mut given)? < 3 {
+        return Ok(false);
     }
     let degree = wide(given[0]);
     let a = given[1];
     let b = given[2];
-    show(field::sum(degree, a, b));
-    io::write_all(STDOUT_FILENO, b" ");
-    show(field::product(degree, a, b));
-    io::write_all(STDOUT_FILENO, b" ");
-    show(field::quotient(degree, a, b));
-    io::write_all(STDOUT_FILENO, b"\n")
+    show(out, field::sum(degree, a, b))?;
+    write!(out, " ")?;
+    show(out, field::product(degree, a, b))?;
+    write!(out, " ")?;
+    show(out, field::quotient(degree, a, b))?;
+    writeln!(out)?;
+    Ok(true)
 }
 
-fn main() {
-    let mut turns = u64::MAX;
-    while turns > 0 && next_line() {
-        turns -= 1;
+fn main(rt: HostRuntime) -> io::Result<()> {
+    let mut input = rt.stdin();
+    let mut out = rt.stdout();
+    for _ in 0..u64::MAX {
+        if !next_line(&mut input, &mut out)? {
+            break;
+        }
     }
+    Ok(())
 }

@@ -22,9 +22,13 @@
 // The buffers are lent with 7 in the result, 9 in the flags and 1 in the working space. A call gives a line: its number, the result and
 // the flags in hexadecimal, and how many bytes of the working space are zero. What is written is held to the answers of another
 // program (tests/second). The first calls are 01's examples and every refusal, each named in tests/second/cases.txt.
+#![tactic(auto)]
+
 ghost use Rattle.std.specs.Prelude.{◌≡◌, ◌+◌, ◌<◌, ◌≤◌, length};
 
-use libc::{STDIN_FILENO, STDOUT_FILENO};
+use reading::read_full;
+use std::io;
+use std::io::{BufWriter, Write};
 
 // A number of two bytes.
 fn two(low: u8, high: u8) -> u32 {
@@ -78,35 +82,38 @@ fn one_if_zero(x: u8) -> u64
 // How many bytes are zero.
 fn zeros(s: &[u8]) -> u64 {
     let mut n = 0;
-    let mut i = 0;
-    while i < s.len() {
-        n += one_if_zero(s[i]);
-        i += 1;
+    for x in s {
+        n += one_if_zero(*x);
     }
     n
 }
 
-fn show_symbols(s: &[u8]) {
-    let mut i = 0;
-    while i < s.len() {
-        io::print_hex(STDOUT_FILENO, s[i] as u64, 2);
-        i += 1;
+fn show_symbols(out: &mut impl Write, s: &[u8]) -> io::Result<()> {
+    for x in s {
+        write!(out, "{x:02x}")?;
     }
+    Ok(())
 }
 
-fn blank() {
-    io::write_all(STDOUT_FILENO, b" ");
+fn blank(out: &mut impl Write) -> io::Result<()> {
+    write!(out, " ")
 }
 
-fn show(answer: u32, res: &[u8], flags: &[u8], space: &[u8]) {
-    io::print_decimal(STDOUT_FILENO, answer as u64);
-    blank();
-    show_symbols(res);
-    blank();
-    show_symbols(flags);
-    blank();
-    io::print_decimal(STDOUT_FILENO, zeros(space));
-    io::write_all(STDOUT_FILENO, b"\n");
+fn show(
+    out: &mut impl Write,
+    answer: u32,
+    res: &[u8],
+    flags: &[u8],
+    space: &[u8],
+) -> io::Result<()> {
+    write!(out, "{answer}")?;
+    blank(out)?;
+    show_symbols(out, res)?;
+    blank(out)?;
+    show_symbols(out, flags)?;
+    blank(out)?;
+    let count = zeros(space);
+    writeln!(out, "{count}")
 }
 
 // The call on a mark.
@@ -237,41 +244,54 @@ fn called(frame: &[u8], res: &mut [u8], flags: &mut [u8], space: &mut [u8]) -> u
 }
 
 // Makes the call of a frame, and shows what it leaves.
-fn shown(frame: &[u8], res: &mut [u8], flags: &mut [u8], space: &mut [u8])
+fn shown(
+    out: &mut impl Write,
+    frame: &[u8],
+    res: &mut [u8],
+    flags: &mut [u8],
+    space: &mut [u8],
+) -> io::Result<()>
     requires { length frame.now ≡ 610 }
 {
     let r = called(frame, res, flags, space);
-    show(r, res, flags, space);
+    show(out, r, res, flags, space)
 }
 
 // The same, with buffers of the lengths that the frame asks for.
-fn lent(frame: &[u8], res: &mut [u8], flags: &mut [u8], space: &mut [u8])
+fn lent(
+    out: &mut impl Write,
+    frame: &[u8],
+    res: &mut [u8],
+    flags: &mut [u8],
+    space: &mut [u8],
+) -> io::Result<()>
     requires { (length frame.now ≡ 610) × (length res.old ≡ 385) × (length flags.old ≡ 97) × (length space.old ≡ 49399) }
 {
     let a = many(frame, 10, 385);
     let f = few(frame, 12, 97);
     let w = 49144 + few(frame, 13, 255);
-    shown(frame, &mut res[..a], &mut flags[..f], &mut space[..w]);
+    shown(out, frame, &mut res[..a], &mut flags[..f], &mut space[..w])
 }
 
 // The same with fresh buffers.
-fn run(frame: &[u8])
+fn run(out: &mut impl Write, frame: &[u8]) -> io::Result<()>
     requires { length frame.now ≡ 610 }
 {
     let mut result = [7u8; 385];
     let mut flags = [9u8; 97];
     let mut space = [1u8; 49399];
-    lent(frame, &mut result, &mut flags, &mut space);
+    lent(out, frame, &mut result, &mut flags, &mut space)
 }
 
-fn main() {
-    let mut turns = u64::MAX;
-    while turns > 0 {
+fn main(rt: HostRuntime) -> io::Result<()> {
+    let mut input = rt.stdin();
+    let mut out = BufWriter::new(rt.alloc(), rt.stdout())?;
+    for _ in 0..u64::MAX {
         let mut frame = [0u8; 610];
-        if io::read_full(STDIN_FILENO, &mut frame) < 610 {
-            return;
+        if read_full(&mut input, &mut frame)? < 610 {
+            break;
         }
-        run(&frame);
-        turns -= 1;
+        run(&mut out, &frame)?;
     }
+    out.flush()
 }

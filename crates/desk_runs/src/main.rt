@@ -10,30 +10,30 @@
 //
 // Each call gives a line: `done`, or `!` and the refusal's number, and the verdict on the desk that was handed over. What it
 // writes is held to the answers of another program (tests/second).
-ghost use Rattle.std.specs.Prelude.{◌≡◌, ◌≤◌, length};
+#![tactic(auto)]
+
+ghost use Rattle.std.specs.Prelude.{◌≡◌, ◌≤◌, length, IfOk};
 ghost use Rattle.desk.specs.Desk.{Made};
 
 use desk::Desk;
-use libc::{STDIN_FILENO, STDOUT_FILENO};
 use mark::Outcome;
+use reading::read_full;
+use std::io;
+use std::io::Write;
 
 // Writes the line of a call, and hands the desk back.
-fn show(outcome: Outcome, desk: Desk) -> Desk
+fn show(out: &mut impl Write, outcome: Outcome, desk: Desk) -> io::Result<Desk>
     requires { Made desk }
-    ensures { Made result }
+    ensures { IfOk result (λ d. Made d) }
 {
     match outcome {
-        Outcome::Done => io::write_all(STDOUT_FILENO, b"done"),
-        Outcome::Refused(k) => {
-            io::write_all(STDOUT_FILENO, b"!");
-            io::print_decimal(STDOUT_FILENO, k as u64)
-        }
-    };
+        Outcome::Done => write!(out, "done")?,
+        Outcome::Refused(k) => write!(out, "!{k}")?,
+    }
     let judged = desk.verdict();
-    io::write_all(STDOUT_FILENO, b" ");
-    io::print_decimal(STDOUT_FILENO, judged.verdict as u64);
-    io::write_all(STDOUT_FILENO, b"\n");
-    judged.desk
+    let verdict = judged.verdict;
+    writeln!(out, " {verdict}")?;
+    Ok(judged.desk)
 }
 
 // A number of two bytes.
@@ -50,10 +50,10 @@ fn count(n: u8, most: usize) -> usize
 }
 
 // Makes the call of a frame, and hands the next desk back.
-fn step(desk: Desk, frame: &[u8]) -> Desk
+fn step(out: &mut impl Write, desk: Desk, frame: &[u8]) -> io::Result<Desk>
     requires made { Made desk }
     requires frame_len { length frame.now ≡ 53 }
-    ensures { Made result }
+    ensures { IfOk result (λ d. Made d) }
 {
     let x = number(frame[1], frame[2]);
     let n = count(frame[3], 20);
@@ -61,29 +61,26 @@ fn step(desk: Desk, frame: &[u8]) -> Desk
     let f = count(frame[32], 20);
     if frame[0] == 0 {
         let opened = Desk::open(x, &frame[5..5 + n], &frame[33..33 + f], &frame[25..25 + k]);
-        let outcome = opened.outcome;
-        let next = opened.desk;
-        return show(outcome, next);
+        return show(out, opened.outcome, opened.desk);
     }
     let put = desk.put(x as usize, &frame[5..5 + n]);
-    let outcome = put.outcome;
-    let next = put.desk;
-    show(outcome, next)
+    show(out, put.outcome, put.desk)
 }
 
-fn main() {
+fn main(rt: HostRuntime) -> io::Result<()> {
+    let mut input = rt.stdin();
+    let mut out = rt.stdout();
     let xs = [0u8];
     let fs = [1u8];
     let ks = [1u8];
     let opened = Desk::open(2, &xs, &fs, &ks);
     let mut desk = opened.desk;
-    let mut turns = u64::MAX;
-    while turns > 0 {
+    for _ in 0..u64::MAX {
         let mut frame = [0u8; 53];
-        if io::read_full(STDIN_FILENO, &mut frame) < 53 {
-            return;
+        if read_full(&mut input, &mut frame)? < 53 {
+            break;
         }
-        desk = step(desk, &frame);
-        turns -= 1;
+        desk = step(&mut out, desk, &frame)?;
     }
+    Ok(())
 }

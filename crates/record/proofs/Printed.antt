@@ -4,6 +4,7 @@
 --   prints_end     nothing is left
 --   prints_last    reading stops: as many bytes are at hand as are wanted, or all that are left
 --   prints_next    it goes on behind the record: no more bytes are at hand than are wanted
+--   none_answered, some_answered    only where nothing is left there is no line, and none goes on
 -- Assumes nothing.
 use mathlib.Core.Path.{◌≡◌, refl, sym, ap, ap₂, ◌∙◌, subst}
 use mathlib.Core.Logic.{◌⊎◌, inl, inr}
@@ -18,7 +19,7 @@ use Rattle.refusal.specs.Meaning.{Meaning, number_of, detail_of}
 use Rattle.refusal.proofs.Keeping.{told}
 use Rattle.record.specs.Records.{stop_checks, stop_of, wanted}
 use Rattle.record.specs.Promises.{LineOf, record_in, fresh, refused_line, meaning, laid, Answers, Prints, ends, stops, goes}
-use Rattle.record.specs.declared.Reply.TheVariants.{Last, Next}
+use Rattle.record.specs.declared.Reply.TheVariants.{End, Last, Next}
 use Rattle.record.proofs.Replies.{Line, stopped}
 use Rattle.record.proofs.Enough.{same_answer, all_held, rest_of}
 
@@ -28,6 +29,17 @@ front v lent h = part-lay 0 v lent (omega arith)
 
 nonempty : {y : ℕ} {ys : List ℕ} → y ∷ ys ≡ [] → ⊥
 nonempty e = let z : ◌≡◌ {A = ℕ} 0 1 = cc in omega arith
+
+pub none_answered : (number : ℕ) (p lent left : List ℕ) → Answers number p lent End left → p ≡ []
+none_answered number [] lent left h = refl
+none_answered number (x ∷ p) lent left h =
+    absurd (told (stop_checks (x ∷ p)) (stopped number lent) (Line number lent (x ∷ p)) (meaning End, left) h
+    (λ none (line, is, e). omega (arith, ap (λ (l : Meaning × List ℕ). number_of l.0) e))
+    (λ k e d. omega (arith, ap (λ (l : Meaning × List ℕ). number_of l.0) d)))
+
+pub some_answered : (number n : ℕ) (p lent left : List ℕ) → Answers number p lent (Next n) left → 1 ≤ length p
+some_answered number n [] lent left h = absurd (omega (arith, ap number_of h.0))
+some_answered number n (x ∷ p) lent left h = omega arith
 
 pub prints_end : (number : ℕ) → Prints number [] []
 prints_end number = ends refl refl

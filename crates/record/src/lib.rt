@@ -1,8 +1,10 @@
 // Records: one parsed, decoded, and its line written, all on slices.
+#![tactic(auto)]
+
 pub mod parts;
 pub mod text;
 
-ghost use Rattle.io.specs.Counts.{IsPrefixLen};
+ghost use Rattle.record.specs.Counts.{Counts};
 ghost use Rattle.refusal.specs.Meaning.{detail_of};
 ghost use Rattle.record.specs.Records.{AtMost, wanted};
 ghost use Rattle.record.specs.Promises.{Answers, meaning, record_in};
@@ -78,7 +80,7 @@ fn decode_line(number: u64, bytes: &[u8], out: &mut [u8], space: &mut [u8]) -> u
 // number laid in the buffer.
 pub fn answer(number: u64, bytes: &[u8], out: &mut [u8; 323]) -> Reply
     ensures answers { Answers number bytes.now out.old result out.new }
-    ensures prefix_len { IsPrefixLen (detail_of (meaning result)) out.new }
+    ensures prefix_len { Counts (detail_of (meaning result)) out.new }
 {
     if bytes.len() == 0 {
         return Reply::End;

@@ -19,9 +19,8 @@ pub fn put_number(out: &mut [u8], at: usize, n: u64) -> usize
     requires { at + length (decimal n) ≤ length out.old }
     ensures { Puts out.old at (decimal n) out.new result }
 {
-    let mut digits = [0u8; 20];
-    let k = io::decimal(n, &mut digits);
-    put_text(out, at, &digits[..k])
+    let mut digits = itoa::Buffer::new();
+    put_text(out, at, digits.format(n).as_bytes())
 }
 
 // Writes a column behind a space or a comma.

@@ -10,68 +10,67 @@
 // An opening and a mark are of the first report, and give a line: `done`, or `!` and the number of the last refusal, and the figures of
 // the report that was handed over. A ranking gives a line that says who comes first, and exchanges the two reports. What it writes is
 // held to the answers of another program (tests/second).
-ghost use Rattle.std.specs.Prelude.{◌≡◌, ◌≤◌, length};
+#![tactic(auto)]
+
+ghost use Rattle.std.specs.Prelude.{◌≡◌, ◌≤◌, length, IfOk};
 ghost use Rattle.report.specs.Report.{Made};
 
-use libc::{STDIN_FILENO, STDOUT_FILENO};
 use mark::Outcome;
+use reading::read_full;
 use report::{Entered, Ranking, Report};
+use std::io::Write;
+use std::{io, mem};
 
 // Writes what stands before a number, and the number.
-fn print(before: &[u8], n: usize) -> bool {
-    io::write_all(STDOUT_FILENO, before);
-    io::print_decimal(STDOUT_FILENO, n as u64)
+fn print(out: &mut impl Write, before: &str, n: usize) -> io::Result<()> {
+    write!(out, "{before}{n}")
 }
 
 // Writes the counts of the endings.
-fn print_endings(endings: [usize; 5]) {
-    let mut k = 0;
-    while k < 5 {
-        print(b" ", endings[k]);
-        k += 1;
+fn print_endings(out: &mut impl Write, endings: [usize; 5]) -> io::Result<()> {
+    for n in endings {
+        print(out, " ", n)?;
     }
+    Ok(())
 }
 
 // Writes the counts of the columns, with their numbers, that are not zero.
-fn print_columns(each: [usize; 96]) {
-    let mut i = 0;
-    while i < 96 {
-        if each[i] != 0 {
-            print(b" ", i);
-            print(b":", each[i]);
+fn print_columns(out: &mut impl Write, each: [usize; 96]) -> io::Result<()> {
+    for (i, n) in each.iter().enumerate() {
+        if *n != 0 {
+            print(out, " ", i)?;
+            print(out, ":", *n)?;
         }
-        i += 1;
     }
+    Ok(())
 }
 
 // Writes the line of an opening or an entry, and hands the report back.
-fn show(outcome: Outcome, report: Report) -> Report
+fn show(out: &mut impl Write, outcome: Outcome, report: Report) -> io::Result<Report>
     requires { Made report }
-    ensures { Made result }
+    ensures { IfOk result (λ r. Made r) }
 {
     match outcome {
-        Outcome::Done => io::write_all(STDOUT_FILENO, b"done"),
-        Outcome::Refused(k) => print(b"!", k as usize),
-    };
-    print(b" ", report.columns);
-    print(b" ", report.marks);
-    let endings = report.endings;
-    print_endings(endings);
-    print(b" ", report.wrong);
-    print(b" ", report.most);
-    let each = report.each;
-    print_columns(each);
-    io::write_all(STDOUT_FILENO, b"\n");
-    report
+        Outcome::Done => write!(out, "done")?,
+        Outcome::Refused(k) => print(out, "!", k as usize)?,
+    }
+    print(out, " ", report.columns)?;
+    print(out, " ", report.marks)?;
+    print_endings(out, report.endings)?;
+    print(out, " ", report.wrong)?;
+    print(out, " ", report.most)?;
+    print_columns(out, report.each)?;
+    writeln!(out)?;
+    Ok(report)
 }
 
 // Writes the line of a ranking.
-fn show_ranking(ranking: Ranking) {
+fn show_ranking(out: &mut impl Write, ranking: Ranking) -> io::Result<()> {
     match ranking {
-        Ranking::Equal => io::write_all(STDOUT_FILENO, b"equal\n"),
-        Ranking::First => io::write_all(STDOUT_FILENO, b"first\n"),
-        Ranking::Second => io::write_all(STDOUT_FILENO, b"second\n"),
-    };
+        Ranking::Equal => writeln!(out, "equal"),
+        Ranking::First => writeln!(out, "first"),
+        Ranking::Second => writeln!(out, "second"),
+    }
 }
 
 // A number of four bytes.
@@ -93,55 +92,47 @@ fn enter(report: Report, ending: usize, detail: usize, times: usize, flags: &[u8
     ensures { Made result.report }
 {
     let mut entered = report.enter(ending, detail, flags);
-    let mut turns = 1;
-    while turns < times {
-        let last = entered.report;
-        entered = last.enter(ending, detail, flags);
-        turns += 1;
+    for _ in 1..times {
+        entered = entered.report.enter(ending, detail, flags);
     }
     entered
 }
 
 // Makes the opening or the entry of a frame, and hands the next report back.
-fn step(report: Report, frame: &[u8]) -> Report
+fn step(out: &mut impl Write, report: Report, frame: &[u8]) -> io::Result<Report>
     requires made { Made report }
     requires frame_len { length frame.now ≡ 114 }
-    ensures { Made result }
+    ensures { IfOk result (λ r. Made r) }
 {
     let x = number(frame[1], frame[2], frame[3], frame[4]);
     if frame[0] == 0 {
         let opened = Report::open(x);
-        let outcome = opened.outcome;
-        let next = opened.report;
-        return show(outcome, next);
+        return show(out, opened.outcome, opened.report);
     }
     let detail = number(frame[5], frame[6], frame[7], frame[8]);
     let times = number(frame[9], frame[10], frame[11], frame[12]);
     let flags = count(frame[13], 100);
     let entered = enter(report, x, detail, times, &frame[14..14 + flags]);
-    let outcome = entered.outcome;
-    let next = entered.report;
-    show(outcome, next)
+    show(out, entered.outcome, entered.report)
 }
 
-fn main() {
+fn main(rt: HostRuntime) -> io::Result<()> {
+    let mut input = rt.stdin();
+    let mut out = rt.stdout();
     let opened = Report::open(1);
     let mut own = opened.report;
     let mut other = own;
-    let mut turns = u64::MAX;
-    while turns > 0 {
+    for _ in 0..u64::MAX {
         let mut frame = [0u8; 114];
-        if io::read_full(STDIN_FILENO, &mut frame) < 114 {
-            return;
+        if read_full(&mut input, &mut frame)? < 114 {
+            break;
         }
-        turns -= 1;
         if frame[0] < 2 {
-            own = step(own, &frame);
+            own = step(&mut out, own, &frame)?;
             continue;
         }
-        show_ranking(own.rank(other));
-        let kept = own;
-        own = other;
-        other = kept;
+        show_ranking(&mut out, own.rank(other))?;
+        mem::swap(&mut own, &mut other);
     }
+    Ok(())
 }

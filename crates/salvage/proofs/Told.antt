@@ -17,7 +17,7 @@ use native.Mathlib.Nat.{zero-add}
 use native.Mathlib.Omega.{arith}
 use lib.ListN.{length, take, drop}
 use lib.Seq.{length-take-le}
-use Rattle.io.specs.Counts.{IsPrefixLen}
+use Rattle.record.specs.Counts.{Counts}
 use Rattle.patch.specs.Parts.{part, lay}
 use Rattle.patch.proofs.Parts.{lay_none, length-lay}
 use Rattle.refusal.specs.Meaning.{Meaning, number_of, detail_of}
@@ -30,7 +30,7 @@ use Rattle.record.specs.Promises.{fresh}
 use Rattle.record.specs.Working.{Puts, PutsWithin, Decoded}
 use Rattle.record.proofs.Heads.{sizes_of}
 use Rattle.record.proofs.Wholes.{Whole, whole_of}
-use Rattle.salvage.specs.Pieces.{Piece, kept, skipped, rewritten, piece_of, AtFront}
+use Rattle.salvage.specs.Pieces.{Piece, skipped, rewritten, piece_of, AtFront}
 use Rattle.salvage.specs.Listing.{changes, line_of, lines_from}
 use Rattle.salvage.specs.Promises.{Rooms, rooms, meaning, told, Finds, Lists}
 use Rattle.salvage.specs.Working.{head, kept_with, Keepable, Told, Decided}
@@ -39,7 +39,7 @@ use Rattle.salvage.specs.declared.Found.TheVariants.{End, Kept, Skipped}
 use Rattle.salvage.proofs.Rewritten.{front, rewritten_is, old_symbols, old_long, old_is, size_long, columns_with, symbols_of}
 use Rattle.salvage.proofs.Rewritten.{length_with}
 
-pub counts : (n : ℕ) (l : List ℕ) → n ≤ length l → IsPrefixLen n l
+pub counts : (n : ℕ) (l : List ℕ) → n ≤ length l → Counts n l
 counts n l h = (h, sym (length-take-le n l h))
 
 pub size-most : (b : List ℕ) → out_of_range b ≡ false → size_in b ≤ 490

@@ -10,7 +10,7 @@
 --   Changing n i out at       symbol i of these, and room for its change from `at` on
 --   head at word n            the first three fields of a line
 use Rattle.std.specs.Prelude.{◌≡◌, List, ◌++◌, ℕ, ◌+◌, ◌*◌, ◌≤◌, ◌<◌, length, take}
-use Rattle.io.specs.Counts.{IsPrefixLen}
+use Rattle.record.specs.Counts.{Counts}
 use Rattle.ending.specs.declared.Ending.{Ending}
 use Rattle.joint.specs.Promises.{Decodes, buffers, left}
 use Rattle.record.specs.Records.{rows_in, columns_in, size_in, stop_of}
@@ -23,7 +23,7 @@ use Rattle.salvage.specs.declared.Found.TheVariants.{End, Kept, Skipped}
 
 abbrev pub Advances : List ℕ → Found → Rooms → Type 0
 Advances b End left = length b ≡ 0
-Advances b (Kept n m) left = (1 ≤ n) × (n ≤ length b) × IsPrefixLen n left.for_record × IsPrefixLen m left.for_line
+Advances b (Kept n m) left = (1 ≤ n) × (n ≤ length b) × Counts n left.for_record × Counts m left.for_line
 Advances b (Skipped n) left = (1 ≤ n) × (n ≤ length b)
 
 pub record Ready (b : List ℕ) (lent : Rooms) : Type 0 where

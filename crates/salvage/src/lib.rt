@@ -1,8 +1,10 @@
 // Salvaging a file of records: what stands at the front of the bytes that are left of it, all on slices.
+#![tactic(auto)]
+
 mod text;
 
 ghost use Rattle.std.specs.Prelude.{◌++◌, ◌+◌, ◌≤◌, length};
-ghost use Rattle.io.specs.Counts.{IsPrefixLen};
+ghost use Rattle.record.specs.Counts.{Counts};
 ghost use Rattle.record.specs.Records.{mark};
 ghost use Rattle.record.specs.Working.{Puts};
 ghost use Rattle.salvage.specs.Promises.{Finds, Lists, rooms};
@@ -88,7 +90,7 @@ pub fn next(offset: u64, bytes: &[u8], kept: &mut [u8; 490], line: &mut [u8; 619
 // Lays the line of a run of skipped bytes in the buffer, none where there are no such bytes, and answers its length.
 pub fn skipped_line(offset: u64, count: u64, line: &mut [u8; 50]) -> usize
     ensures lists { Lists offset count line.old result line.new }
-    ensures prefix_len { IsPrefixLen result line.new }
+    ensures prefix_len { Counts result line.new }
 {
     if count == 0 {
         return 0;

@@ -17,46 +17,46 @@ use Rattle.record.proofs.decode_line.Tie as tie
 held : (c : tie.Start) → Whole c.args.bytes.now
 held c = whole_of _ c.requires.whole
 
-shared-slice-read-wide : tie.Need-shared-slice-read-wide
+shared-slice-read-wide : tie.Need-bounds-bytes-4
 shared-slice-read-wide c = omega (arith, held c.before.before.before.before)
 
-decode-requires : tie.Need-decode-requires
-decode-requires c κs = let s = c.before.before.before.before.before.before.before.before in
+decode-requires : tie.Need-decode-ending-requires
+decode-requires c κs = let s = c in
     record { whole = s.requires.whole; array_zero = refl; flags_zero = refl }
 
 -- where the record is decoded
-module _ (c : tie.After-decode) where
-  abbrev read : tie.After-wide
+module _ (c : tie.After-decode-ending) where
+  abbrev read : tie.After-wide-n
   read = c.before.before.before.before
 
   abbrev start : tie.Start
   start = read.before.before.before.before.before
 
   abbrev n : ℕ
-  n = read.wide.result
+  n = read.wide-n.result
 
   abbrev flags : List ℕ
-  flags = c.decode.new.1.1.0
+  flags = c.decode-ending.new.flags
 
   few : n ≤ 96
-  few = omega (arith, read.wide.ensures, (columns-most _ (held start).inside).1)
+  few = omega (arith, read.wide-n.ensures, (columns-most _ (held start).inside).1)
 
   room : n ≤ length flags
-  room = omega (arith, few, c.decode.auto)
+  room = omega (arith, few, c.decode-ending.auto)
 
 returns : tie.Need-returns
 returns c = let d = c.before.before.before.before.before.before.before.before.before in
     let s = (start d).args in
-    let e = d.decode.result in
-    let line = c.before.before.put-line in
-    let is = d.decode.ensures in
+    let e = d.decode-ending.result in
+    let line = c.put_line in
+    let is = d.decode-ending.ensures in
     let front : take (n d) (flags d) ≡ take (columns_in s.bytes.now) (flags d) =
-    ap (λ (k : ℕ). take k (flags d)) (read d).wide.ensures in
+    ap (λ (k : ℕ). take k (flags d)) (read d).wide-n.ensures in
     record {
       line = line_of s.number e (take (n d) (flags d));
       of_record = record {
         ending = e;
-        array = take (rows_in s.bytes.now * columns_in s.bytes.now) d.decode.new.1.0;
+        array = take (rows_in s.bytes.now * columns_in s.bytes.now) d.decode-ending.new.array;
         flags = take (columns_in s.bytes.now) (flags d);
         space = is.space;
         decodes = is.decodes;
@@ -66,8 +66,8 @@ returns c = let d = c.before.before.before.before.before.before.before.before.be
       most = line.ensures.most;
     }
 
-pub decode-line-spec : {M : Type 1} → statement M
-decode-line-spec = tie.close (tie.spec
+pub decode_line_spec : {M : Type 1} → statement M
+decode_line_spec = tie.close (tie.spec
     shared-slice-read-wide
     (λ c κs. search rules) (λ c. search rules) (λ c. search rules)
     decode-requires

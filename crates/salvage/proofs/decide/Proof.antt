@@ -14,50 +14,50 @@ held : (c : tie.Start) → Whole c.args.bytes.now
 held c = whole_of _ c.requires.whole
 
 -- where the record is decoded
-module _ (c : tie.After-slice-known4) where
-  abbrev decoded : tie.After-decode
+module _ (c : tie.After-slice_known-4-1) where
+  abbrev decoded : tie.After-decode-ending
   decoded = c.before.before.before.before
 
-  abbrev sized : tie.After-size
+  abbrev sized : tie.After-size-size
   sized = decoded.before.before.before.before
 
   abbrev start : tie.Start
   start = sized.before.before.before.before.before
 
-  size_is : sized.size.result ≡ size_in start.args.bytes.now
-  size_is = sized.size.ensures.is
+  size_is : sized.size-size.result ≡ size_in start.args.bytes.now
+  size_is = sized.size-size.ensures.is
 
-returns : tie.Need-returns
-returns c = let k = c.before.before in
-    decided_as (Refused _) c.enum_told.given.1 (decoded k).decode.ensures
+returns : tie.Need-returns-in-Refused
+returns c = let k = c.before in
+    decided_as (Refused _) c.in-Refused.is (decoded k).decode-ending.ensures
     (skip_told _ _ 1 _ (omega arith) (omega (arith, held (start k))))
 
-returns-2 : tie.Need-returns-2
+returns-2 : tie.Need-returns-in-Corrected
 returns-2 c = let w = c.before.before.before.before in
-    let k = w.before.before.before.before.before.before in
-    decided_as (Corrected _) w.before.before.before.before.enum-told2.given.1 (decoded k).decode.ensures w.keep.ensures
+    let k = w.before.before.before.before.before in
+    decided_as (Corrected _) w.in-Corrected.is (decoded k).decode-ending.ensures w.keep.ensures
 
-returns-3 : tie.Need-returns-3
-returns-3 c = let k = c.before.before in
-    decided_as Nothing c.enum-told3.given.1 (decoded k).decode.ensures (skip_whole _ _ _ (size_is k) (held (start k)))
+returns-3 : tie.Need-returns-in-Nothing
+returns-3 c = let k = c.before in
+    decided_as Nothing c.in-Nothing.is (decoded k).decode-ending.ensures (skip_whole _ _ _ (size_is k) (held (start k)))
 
-returns-4 : tie.Need-returns-4
-returns-4 c = let k = c.before.before in
-    decided_as (Several _) c.enum-told4.given.1 (decoded k).decode.ensures (skip_whole _ _ _ (size_is k) (held (start k)))
+returns-4 : tie.Need-returns-in-Several
+returns-4 c = let k = c.before in
+    decided_as (Several _) c.in-Several.is (decoded k).decode-ending.ensures (skip_whole _ _ _ (size_is k) (held (start k)))
 
-returns-5 : tie.Need-returns-5
-returns-5 c = let k = c.before.before in
-    decided_as (Hollow _) c.enum-told5.given.1 (decoded k).decode.ensures (skip_whole _ _ _ (size_is k) (held (start k)))
+returns-5 : tie.Need-returns-in-Hollow
+returns-5 c = let k = c.before in
+    decided_as (Hollow _) c.in-Hollow.is (decoded k).decode-ending.ensures (skip_whole _ _ _ (size_is k) (held (start k)))
 
-pub decide-spec : {M : Type 1} → statement M
-decide-spec = tie.close (tie.spec
+pub decide_spec : {M : Type 1} → statement M
+decide_spec = tie.close (tie.spec
     (λ c κs. let w = held c.before.before.before.before in record { five = w.five; inside = w.inside })
     (λ c. search rules) (λ c. search rules)
-    (λ c κs. let s = c.before.before.before.before.before.before.before.before in
+    (λ c κs. let s = c in
     record { whole = s.requires.whole; array_zero = refl; flags_zero = refl })
     (λ c. search rules) (λ c. search rules) (λ c. search rules)
-    (λ c κs. let k = c.before.before.before.before.before in
-    record { of = (start k).requires; symbols = omega (arith, (decoded k).decode.auto) })
+    (λ c κs. let k = c.before.before.before.before in
+    record { of = (start k).requires; symbols = omega (arith, (decoded k).decode-ending.auto) })
     (λ c. search rules) (λ c. search rules) (λ c. search rules)
     (λ c. search rules) returns
     (λ c. search rules) (λ c. search rules) (λ c. search rules) returns-2

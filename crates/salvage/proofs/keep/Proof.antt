@@ -17,21 +17,21 @@ held : (c : tie.Start) → Whole c.args.bytes.now
 held c = whole_of _ c.requires.of.whole
 
 -- where the counts are read
-module _ (c : tie.After-wide2) where
+module _ (c : tie.After-wide-n) where
   abbrev start : tie.Start
   start = c.before.before.before.before.before.before.before.before
 
   abbrev r : ℕ
-  r = c.before.before.wide.result
+  r = c.wide-r.result
 
   abbrev n : ℕ
-  n = c.wide2.result
+  n = c.wide-n.result
 
   sizes : Sizes start.args.bytes.now r n
-  sizes = sizes_of (held start).inside c.before.before.wide.ensures c.wide2.ensures
+  sizes = sizes_of (held start).inside c.wide-r.ensures c.wide-n.ensures
 
   cells : r * n ≤ length start.args.array.now
-  cells = omega (arith, sizes.cells, start.pre.symbols)
+  cells = omega (arith, sizes.cells, start.requires.symbols)
 
   new_long : length (take (r * n) start.args.array.now) ≡ r * n
   new_long = length-take-le (r * n) start.args.array.now cells
@@ -51,16 +51,16 @@ module _ (c : tie.After-wide2) where
       let e : 6 + r + n - 2 ≡ 4 + r + n = omega arith in
       rw e (length-take-le (4 + r + n) (drop 2 bytes) (omega (arith, length-drop 2 bytes, sizes.total, (held start).complete)))
 
-abbrev read : tie.After-rewrite-arg2 → tie.After-wide2
-read c = c.before.before.before.before
+abbrev read : tie.After-rewrite-arg-2-1 → tie.After-wide-n
+read c = c.before.before.before
 
 returns : tie.Need-returns
-returns c = let line = c.before.before.put-kept in
+returns c = let line = c.put_kept in
     let w = c.before.before.before.before.before.before in
     let c₀ = read w.before in
     let s = start c₀ in
-    keep_told s.args.offset s.args.bytes.now s.args.array.now _ s.pre (r c₀) (n c₀) c₀.before.before.wide.ensures
-    c₀.wide2.ensures w.rewrite.ensures line.ensures
+    keep_told s.args.offset s.args.bytes.now s.args.array.now _ s.requires (r c₀) (n c₀) c₀.wide-r.ensures
+    c₀.wide-n.ensures w.rewrite-length.ensures line.ensures
 
 pub keep_spec : {M : Type 1} → statement M
 keep_spec = tie.close (tie.spec
@@ -72,18 +72,18 @@ keep_spec = tie.close (tie.spec
     (λ c. search rules) (λ c. search rules)
     (λ c. omega (arith, sizes c, held (start c)))
     (λ c. omega (arith, sizes c.before))
-    (λ c. sym (new_long c.before.before))
+    (λ c. sym (new_long c.before))
     (λ c. search rules) (λ c. search rules)
-    (λ c. omega (arith, sizes c.before.before, held (start c.before.before)))
+    (λ c. omega (arith, sizes c.before, held (start c.before)))
     (λ c κs. let t = read c in
-    omega (arith, head_long t, new_long t, sizes t, size-most (bytes t) (held (start t)).inside, (start t).pre.of.record_room))
+    omega (arith, head_long t, new_long t, sizes t, size-most (bytes t) (held (start t)).inside, (start t).requires.of.record_room))
     (λ c κs. let t = read c.before.before.before.before in (
       record {
-        columns = omega (arith, t.wide2.ensures, (columns-most (bytes t) (held (start t)).inside).0);
+        columns = omega (arith, t.wide-n.ensures, (columns-most (bytes t) (held (start t)).inside).0);
         same = new_long t ∙ sym (old_long t);
         few = omega (arith, old_long t, (sizes t).cells);
       },
-      (start t).pre.of.line_room,
+      (start t).requires.of.line_room,
     ))
     (λ c. search rules) (λ c. search rules)
     returns)

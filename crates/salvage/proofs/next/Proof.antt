@@ -15,27 +15,27 @@ start c = c.before.before.before
 abbrev lent : tie.Start → Rooms
 lent s = rooms s.args.kept.now s.args.line.now
 
-returns-3 : tie.Need-returns-3
+returns-3 : tie.Need-returns
 unfolding fresh
 returns-3 c = let d = c.before in
     let e = d.before.before.before.before in
     let at = e.before in
-    let s = (start at).args in (
-      found_decided s.offset (lent (start at)) s.bytes.now _ at.before.if1.false (sym at.stop.ensures ∙ e.if2.false)
+    let s = at.args in (
+      found_decided s.offset (lent (start at)) s.bytes.now _ at.if-bytes-eq0.false (sym at.stop.ensures ∙ e.if-stop-ne0.false)
           d.decide.ensures,
       d.decide.ensures.piece.advances,
     )
 
-pub next-spec : {M : Type 1} → statement M
-next-spec = tie.close (tie.spec
-    (λ c. let s = c.before.before in (found_end s.args.offset (lent s) s.args.bytes.now c.if1.true, c.if1.true))
+pub next_spec : {M : Type 1} → statement M
+next_spec = tie.close (tie.spec
+    (λ c. let s = c.before.before in (found_end s.args.offset (lent s) s.args.bytes.now c.if-bytes-eq0.true, c.if-bytes-eq0.true))
     (λ c κs. search rules)
     (λ c. let at = c.before in
     let s = start at in (
-      found_failed s.args.offset (lent s) s.args.bytes.now at.before.if1.false at.stop.ensures c.if2.true,
-      (omega arith, omega (arith, at.before.if1.false)),
+      found_failed s.args.offset (lent s) s.args.bytes.now at.if-bytes-eq0.false at.stop.ensures c.if-stop-ne0.true,
+      (omega arith, omega (arith, at.if-bytes-eq0.false)),
     ))
     (λ c. search rules)
-    (λ c κs. let e = c.before.before.before in
-    record { whole = sym e.before.stop.ensures ∙ e.if2.false; record_room = search rules; line_room = search rules })
+    (λ c κs. let e = c in
+    record { whole = sym e.stop.ensures ∙ e.if-stop-ne0.false; record_room = search rules; line_room = search rules })
     returns-3)

@@ -10,28 +10,28 @@ use borrow.Author.Rules.{rules}
 use Rattle.desk.proofs.Desk.place.Statement.{statement}
 use Rattle.desk.proofs.Desk.place.Tie as tie
 
-abbrev invariant-loop : tie.invariant-loop
+abbrev invariant-loop : tie.invariant-loop-l
 invariant-loop column self₀ symbols n rows start₀ l₀ self start l = Writing self₀ column (take rows symbols) self start l
 
-abbrev decreases-loop : tie.decreases-loop
+abbrev decreases-loop : tie.decreases-loop-l
 decreases-loop column self₀ symbols n rows start₀ l₀ self start l = rows - l
 
 -- the desk has as many symbols as rows
-count : (c : tie.Start invariant-loop decreases-loop) → length (take c.args.t1.rows c.args.t3) ≡ c.args.t1.rows
-count c = length-take-le c.args.t1.rows c.args.t3 (omega (arith, c.requires.most_rows, c.well-formed.1.1.0.1.0.1))
+count : (c : tie.Start invariant-loop decreases-loop) → length (take c.args.self.rows c.args.symbols) ≡ c.args.self.rows
+count c = length-take-le c.args.self.rows c.args.symbols (omega (arith, c.requires.most_rows, c.well_formed.1.1.0.1.0.1))
 
 -- the row that is written lies in the desk's array
-module _ (c : tie.In-loop invariant-loop decreases-loop) where
+module _ (c : tie.In-loop-l invariant-loop decreases-loop) where
   abbrev start : tie.Start invariant-loop decreases-loop
   start = c.before.before
 
-  row : c.before.loop.start + start.args.t1.columns ≤ 64
-  row = let d = start.args.t1 in
-      let turn = c.before.loop in
-      omega (arith, start.pre.cells, turn.invariant.place, row_end d.rows d.columns turn.l c.loop-test.true)
+  row : c.loop-l.start + start.args.self.columns ≤ 64
+  row = let d = start.args.self in
+      let turn = c.loop-l in
+      omega (arith, start.requires.cells, turn.invariant.place, row_end d.rows d.columns turn.l c.loop-l-test.true)
 
-pub place-spec : {M : Type 1} → statement M
-place-spec = tie.close (tie.spec invariant-loop decreases-loop
+pub place_spec : {M : Type 1} → statement M
+place_spec = tie.close (tie.spec invariant-loop decreases-loop
     (λ c. writing_begin _ _ _)
     (λ c. search rules)
     (λ c. omega (arith, row c, (start c).requires.column))
@@ -39,7 +39,7 @@ place-spec = tie.close (tie.spec invariant-loop decreases-loop
     (λ c. omega (arith, row c))
     (λ c. search rules) (λ c. search rules)
     (λ c. let s = (start c).args in
-    let l = c.before.loop.l in
-    let here = c.loop-test.true in
-    writing-again c.before.loop.invariant _ (sym (get_or-take s.t1.rows s.t3 l 0 here)) (omega (arith, count (start c), here)))
-    (λ c. writing_end c.before.loop.invariant (omega (arith, count c.before.before, c.loop-test.false))))
+    let l = c.loop-l.l in
+    let here = c.loop-l-test.true in
+    writing-again c.loop-l.invariant _ (sym (get_or-take s.self.rows s.symbols l 0 here)) (omega (arith, count (start c), here)))
+    (λ c. writing_end c.loop-l.invariant (omega (arith, count c.before.before, c.loop-l-test.false))))

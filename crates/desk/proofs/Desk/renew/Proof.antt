@@ -18,7 +18,7 @@ use Rattle.desk.proofs.Desk.renew.Statement.{statement}
 use Rattle.desk.proofs.Desk.renew.Tie as tie
 
 -- where the desk's parts are copied
-module _ (c : tie.After-above) where
+module _ (c : tie.After-above-1) where
   abbrev start : tie.Start
   start = c.before.before.before.before.before
 
@@ -26,27 +26,27 @@ module _ (c : tie.After-above) where
   desk = start.args.self
 
   held : Sound desk
-  held = sound start.pre.made
+  held = sound start.requires.made
 
 -- where the column's polynomial is known
-module _ (c : tie.After-basis) where
-  abbrev copied : tie.After-above
+module _ (c : tie.After-basis-basis) where
+  abbrev copied : tie.After-above-1
   copied = c.before.before.before.before
 
   abbrev own : List ℕ
-  own = take (desk copied).columns c.basis.result
+  own = take (desk copied).columns c.basis-basis.result
 
   polynomial : Poly (gf (desk copied).degree) (desk copied).columns own
-  polynomial = basis_polynomial (held copied).frame.column-count c.basis.ensures
+  polynomial = basis_polynomial (held copied).frame.column-count c.basis-basis.ensures
 
 -- where the table is lent, the parts in use are cut out, and the coefficients are raised
-abbrev lent : tie.After-table → tie.After-above
+abbrev lent : tie.After-table-1 → tie.After-above-1
 lent c = c.before.before
 
-abbrev cut : tie.After-above2 → tie.After-basis
+abbrev cut : tie.After-above-2-1 → tie.After-basis-basis
 cut c = c.before.before.before.before.before.before
 
-abbrev raised : tie.After-above4 → tie.After-raise
+abbrev raised : tie.After-above-4-1 → tie.After-raise
 raised c = c.before.before
 
 raise-requires : tie.Need-raise-requires
@@ -54,10 +54,10 @@ raise-requires c κs =
     let b = cut c in
     let h = held (copied b) in
     let f = h.frame in
-    let can = (start (copied b)).pre.can in
+    let can = (start (copied b)).requires.can in
     let count = (polynomial b).count in record {
       degree = f.degree;
-      table = b.before.before.before.lend.ensures;
+      table = b.lend-table.ensures;
       lengths = subst (λ (m : ℕ). Within 1 m (desk_code (desk (copied b))).lengths) (f.column-count ∙ sym count) f.proper.lengths;
       column = omega (arith, can.column, count);
       factor = factor_at h _ can.column;
@@ -66,7 +66,7 @@ raise-requires c κs =
       array = h.symbols;
       count = can.count ∙ sym f.row_count;
       symbols = can.symbols;
-      room = above_size (known (start (copied b)).pre.made);
+      room = above_size (known (start (copied b)).requires.made);
     }
 
 returns : tie.Need-returns
@@ -75,39 +75,39 @@ returns c =
     let b = cut r.before in
     let s = start (copied b) in record {
       others = refl;
-      known = known_placed s.args.self s.args.column _ (own b) _ _ (held (copied b)) (known s.pre.made) s.pre.can
-          (polynomial b) (basis_unit (held (copied b)).frame.column-count b.basis.ensures) r.raise.ensures
-          c.nonzero-rows.ensures;
+      known = known_placed s.args.self s.args.column _ (own b) _ _ (held (copied b)) (known s.requires.made) s.requires.can
+          (polynomial b) (basis_unit (held (copied b)).frame.column-count b.basis-basis.ensures) r.raise.ensures
+          c.nonzero_rows.ensures;
     }
 
-pub renew-spec : {M : Type 1} → statement M
-renew-spec = tie.close (tie.spec
+pub renew_spec : {M : Type 1} → statement M
+renew_spec = tie.close (tie.spec
     (λ c κs. (held c).frame.degree)
     (λ c. let f = (held (lent c)).frame in omega (arith, f.points_size, f.most_columns))
     (λ c. sym (held (lent c.before)).frame.column-count)
     (λ c κs. let t = c.before in
     let f = (held (lent t)).frame in record {
       degree = f.degree;
-      table = t.before.lend.ensures;
+      table = t.lend-table.ensures;
       points = record { symbols = f.proper.symbols; distinct = f.proper.distinct };
       few = omega (arith, f.column-count, f.most_columns);
-      column = omega (arith, f.column-count, (start (lent t)).pre.can.column);
+      column = omega (arith, f.column-count, (start (lent t)).requires.can.column);
     })
     (λ c. let f = (held (copied c.before)).frame in omega (arith, f.lengths_size, f.most_rows))
     (λ c. sym (held (copied c.before.before)).frame.row_count)
     (λ c. let b = c.before.before in
-    omega (arith, (polynomial b).count, length-take (desk (copied b)).columns b.basis.result))
+    omega (arith, (polynomial b).count, length-take (desk (copied b)).columns b.basis-basis.result))
     (λ c. sym (polynomial c.before.before.before).count)
     (λ c. let d = copied c.before.before.before in
-    omega (arith, (held d).frame.factors_size, (held d).frame.most_columns, (start d).pre.can.column))
+    omega (arith, (held d).frame.factors_size, (held d).frame.most_columns, (start d).requires.can.column))
     (λ c. search rules)
     (λ c. let s = start (copied c.before.before.before.before) in
-    omega (arith, s.pre.can.count, length-take s.args.self.rows s.args.t3))
+    omega (arith, s.requires.can.count, length-take s.args.self.rows s.args.symbols))
     (λ c. search rules)
     (λ c. search rules)
     raise-requires
     (λ c. search rules)
     (λ c κs. let r = raised c in
     let d = copied (cut r.before) in
-    omega (arith, r.raise.ensures.size, above_size (known (start d).pre.made), (held d).frame.cells))
+    omega (arith, r.raise.ensures.size, above_size (known (start d).requires.made), (held d).frame.cells))
     returns)

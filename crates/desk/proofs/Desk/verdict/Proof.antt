@@ -5,5 +5,5 @@ use Rattle.desk.proofs.Known.{stored_verdict}
 use Rattle.desk.proofs.Desk.verdict.Statement.{statement}
 use Rattle.desk.proofs.Desk.verdict.Tie as tie
 
-pub verdict-spec : {M : Type 1} → statement M
-verdict-spec = tie.close (tie.spec (λ c. (record { number = stored_verdict c.requires; kept = refl }, c.requires)))
+pub verdict_spec : {M : Type 1} → statement M
+verdict_spec = tie.close (tie.spec (λ c. (record { number = stored_verdict c.requires; kept = refl }, c.requires)))

@@ -9,11 +9,11 @@ use Rattle.desk.proofs.Desk.zero.Tie as tie
 returns : tie.Need-returns
 unfolding zeros
 returns c =
-    let fs = c.before.before.before.before in
-    rw (fs.before.before.before.store.ensures, fs.store2.ensures, c.before.store3.ensures) refl
+    let fs = c in
+    rw (fs.store.ensures, fs.store-2.ensures, c.store-3.ensures) refl
 
-pub zero-spec : {M : Type 1} → statement M
-zero-spec = tie.close (tie.spec
+pub zero_spec : {M : Type 1} → statement M
+zero_spec = tie.close (tie.spec
     (λ c. search rules) (λ c κs. search rules)
     (λ c. search rules) (λ c κs. search rules)
     (λ c. search rules) (λ c κs. search rules)

@@ -17,7 +17,7 @@ use Rattle.desk.proofs.above.basis.Statement.{statement}
 use Rattle.desk.proofs.above.basis.Tie as tie
 
 -- where the inverses are taken
-module _ (c : tie.After-all-inverses) where
+module _ (c : tie.After-all_inverses) where
   abbrev start : tie.Start
   start = c.before.before.before
 
@@ -25,16 +25,16 @@ module _ (c : tie.After-all-inverses) where
   unit = set (replicate 16 0) start.args.column 1
 
   count : length (take (length start.args.points.now) unit) ≡ length start.args.points.now
-  count = length-take-le _ unit (omega (arith, start.pre.few, length-set {A = ℕ} (replicate 16 0) start.args.column 1))
+  count = length-take-le _ unit (omega (arith, start.requires.few, length-set {A = ℕ} (replicate 16 0) start.args.column 1))
 
-abbrev taken : tie.After-unit → tie.After-all-inverses
+abbrev taken : tie.After-unit-1 → tie.After-all_inverses
 taken c = c.before.before.before
 
-read-row-requires : tie.Need-read-row-requires
+read-row-requires : tie.Need-read_row-requires
 read-row-requires c κs =
     let all = taken c.before in
     let s = start all in
-    let p = s.pre in
+    let p = s.requires in
     let d = s.args.degree in record {
       row = record {
         degree = p.degree;
@@ -45,13 +45,13 @@ read-row-requires c κs =
         count = count all;
         symbols = all_take (IsSymbol d) (length s.args.points.now) (unit all)
             (all_set (IsSymbol d) (replicate 16 0) s.args.column 1 (field d p.degree).one_in (symbols_zeros d 16));
-        inverses = all.all-inverses.ensures;
+        inverses = all.all_inverses.ensures;
       };
       room = omega (arith, p.few);
     }
 
-pub basis-spec : {M : Type 1} → statement M
-basis-spec = tie.close (tie.spec
+pub basis_spec : {M : Type 1} → statement M
+basis_spec = tie.close (tie.spec
     (λ c. search rules)
     (λ c. search rules)
     (λ c κs. let s = c.before.before in
@@ -66,5 +66,5 @@ basis-spec = tie.close (tie.spec
     read-row-requires
     (λ c. let r = c.before in
     let s = start (taken r.before.before) in
-    let p = s.pre in
-    unit_basis (field s.args.degree p.degree) p.points p.few p.column r.read-row.ensures.polynomial))
+    let p = s.requires in
+    unit_basis (field s.args.degree p.degree) p.points p.few p.column r.read_row.ensures.polynomial))

@@ -23,55 +23,55 @@ use Rattle.desk.proofs.above.nonzero_rows.Tie as tie
 abbrev some : ℕ → List ℕ → ℕ → Bool
 some n t l = some_outside 0 0 (part (l * n) n t)
 
-abbrev invariant-loop : tie.invariant-loop
+abbrev invariant-loop : tie.invariant-loop-l
 invariant-loop above r n count₀ start₀ l₀ count start l = Counts (some n above) n r count start l
 
-abbrev decreases-loop : tie.decreases-loop
+abbrev decreases-loop : tie.decreases-loop-l
 decreases-loop above r n count₀ start₀ l₀ count start l = r - l
 
 -- in a turn the row lies in the slice
-module _ (c : tie.In-loop invariant-loop decreases-loop) where
+module _ (c : tie.In-loop-l invariant-loop decreases-loop) where
   abbrev start : tie.Start invariant-loop decreases-loop
   start = c.before.before.before
 
-  row : c.before.loop.start + start.args.n ≤ length start.args.above.now
-  row = let turn = c.before.loop in
-      omega (arith, start.pre, turn.invariant.place, row_end start.args.r start.args.n turn.l c.loop-test.true)
+  row : c.loop-l.start + start.args.n ≤ length start.args.above.now
+  row = let turn = c.loop-l in
+      omega (arith, start.requires, turn.invariant.place, row_end start.args.r start.args.n turn.l c.loop-l-test.true)
 
 -- where the row is looked at
-module _ (c : tie.After-all-zero invariant-loop decreases-loop) where
-  abbrev turn : tie.In-loop invariant-loop decreases-loop
+module _ (c : tie.After-all_zero invariant-loop decreases-loop) where
+  abbrev turn : tie.In-loop-l invariant-loop decreases-loop
   turn = c.before.before
 
   abbrev looked : List ℕ
-  looked = let s = (start turn).args in part (turn.before.loop.l * s.n) s.n s.above.now
+  looked = let s = (start turn).args in part (turn.loop-l.l * s.n) s.n s.above.now
 
   said : (c.all_zero.result ≡ true) ↔ All (λ (a : ℕ). a ≡ 0) looked
   said = subst (λ (t : List ℕ). (c.all_zero.result ≡ true) ↔ All (λ (a : ℕ). a ≡ 0) t)
-      (row_part (start turn).args.n turn.before.loop.l (start turn).args.above.now turn.before.loop.inv.place)
+      (row_part (start turn).args.n turn.loop-l.l (start turn).args.above.now turn.loop-l.invariant.place)
       c.all_zero.ensures
 
 returns : tie.Need-returns invariant-loop decreases-loop
 unfolding nonzero_rows
-returns c = counts_end c.before.loop.invariant c.loop-test.false
+returns c = counts_end c.loop-l.invariant c.loop-l-test.false
 
-pub nonzero-rows-spec : {M : Type 1} → statement M
-nonzero-rows-spec = tie.close (tie.spec invariant-loop decreases-loop
+pub nonzero_rows_spec : {M : Type 1} → statement M
+nonzero_rows_spec = tie.close (tie.spec invariant-loop decreases-loop
     (λ c. counts_begin _ _ _)
     (λ c. omega (arith, row c))
     (λ c. search rules)
     (λ c. omega (arith, row c))
     (λ c. omega (arith, row c))
     (λ c κs. search rules)
-    (λ c. let t = turn c.before in omega (arith, t.before.loop.inv.few, t.loop-test.taken, (start t).fits.r))
+    (λ c. let t = turn c.before in omega (arith, t.loop-l.invariant.few, t.loop-l-test.true, (start t).ranges.r.fits))
     (λ c. omega (arith, row (turn c.before)))
     (λ c. search rules)
     (λ c. search rules)
     (λ c. let a = c.before in
-    let inv = (turn a).before.loop.invariant in
-    let more = ◌+◌ (turn a).before.loop.count in
-    counts-again inv (turn a).loop-test.true (⊎_elim
-    (λ w. w.1 ∙ ap more (sym (flag_some (looked a) (said a) (not-true _ w.0.taken))))
-    (λ w. w.1 ∙ sym (ap more (flag_none (looked a) (said a) (not-false _ w.0.left)) ∙ add-zero _))
-    c.if1.branch))
+    let inv = (turn a).loop-l.invariant in
+    let more = ◌+◌ (turn a).loop-l.count in
+    counts-again inv (turn a).loop-l-test.true (⊎_elim
+    (λ w. w.count-is ∙ ap more (sym (flag_some (looked a) (said a) w.if-not-all_zero.true)))
+    (λ w. w.count-is ∙ sym (ap more (flag_none (looked a) (said a) w.if-not-all_zero.false) ∙ add-zero _))
+    c.if-not-all_zero.branch-raw))
     returns)

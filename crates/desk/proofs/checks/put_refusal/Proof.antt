@@ -8,26 +8,26 @@ use Rattle.desk.proofs.checks.put_refusal.Statement.{statement}
 use Rattle.desk.proofs.checks.put_refusal.Tie as tie
 
 -- where the column is below n
-abbrev below : tie.Else2 → tie.Else1
+abbrev below : tie.Else-symbols-desk → tie.Else-desk-column
 below c = c.before.before
 
-returns : tie.Need-returns
+returns : tie.Need-returns-then-desk-column
 unfolding first
-returns c = simp (le-leb _ _ c.if1.true)
+returns c = simp (le-leb _ _ c.if-desk-column.true)
 
-returns-2 : tie.Need-returns-2
+returns-2 : tie.Need-returns-then-symbols-desk
 unfolding first
-returns-2 c = simp (lt-leb _ _ c.before.before.if1.false, ne_eqb _ _ c.if2.true)
+returns-2 c = simp (lt-leb _ _ c.if-desk-column.false, ne_eqb _ _ c.if-symbols-desk.true)
 
-returns-3 : tie.Need-returns-3
+returns-3 : tie.Need-returns-then-some_outside_field
 unfolding first
-returns-3 c = let long = c.before.before in
-    simp (lt-leb _ _ (below long).if1.false, eq-eqb _ _ long.if2.false, sym c.before.some-outside-field.ensures ∙ c.if3.true)
+returns-3 c = let long = c in
+    simp (lt-leb _ _ long.if-desk-column.false, eq-eqb _ _ long.if-symbols-desk.false, sym c.some_outside_field.ensures ∙ c.if-some_outside_field.true)
 
-returns-4 : tie.Need-returns-4
+returns-4 : tie.Need-returns
 unfolding first
-returns-4 c = let long = c.before.before in
-    simp (lt-leb _ _ (below long).if1.false, eq-eqb _ _ long.if2.false, sym c.before.some-outside-field.ensures ∙ c.if3.false)
+returns-4 c = let long = c in
+    simp (lt-leb _ _ long.if-desk-column.false, eq-eqb _ _ long.if-symbols-desk.false, sym c.some_outside_field.ensures ∙ c.if-some_outside_field.false)
 
-pub put-refusal-spec : {M : Type 1} → statement M
-put-refusal-spec = tie.close (tie.spec returns returns-2 (λ c κs. search rules) returns-3 returns-4)
+pub put_refusal_spec : {M : Type 1} → statement M
+put_refusal_spec = tie.close (tie.spec returns returns-2 (λ c κs. search rules) returns-3 returns-4)

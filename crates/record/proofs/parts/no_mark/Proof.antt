@@ -6,10 +6,10 @@ use borrow.Author.Rules.{rules}
 use Rattle.record.proofs.parts.no_mark.Statement.{statement}
 use Rattle.record.proofs.parts.no_mark.Tie as tie
 
-pub no-mark-spec : {M : Type 1} → statement M
-no-mark-spec = tie.close (tie.spec
-    (λ c. sym (few_bytes _ c.if1.true))
+pub no_mark_spec : {M : Type 1} → statement M
+no_mark_spec = tie.close (tie.spec
+    (λ c. sym (few_bytes _ c.if-bytes-lt2.true))
     (λ c. search rules) (λ c. search rules)
-    (λ c. sym (first_byte _ c.before.before.if1.false c.if2.true))
+    (λ c. sym (first_byte _ c.if-bytes-lt2.false c.if-bytes.true))
     (λ c. search rules) (λ c. search rules)
-    (λ c. sym (second_byte _ c.before.before.before.if1.false c.before.if2.false)))
+    (λ c. sym (second_byte _ c.if-bytes-lt2.false c.if-bytes.false)))

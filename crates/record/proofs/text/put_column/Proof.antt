@@ -8,14 +8,11 @@ use borrow.Author.Rules.{rules}
 use Rattle.record.proofs.text.put_column.Statement.{statement}
 use Rattle.record.proofs.text.put_column.Tie as tie
 
-abbrev start : tie.After-put-number → tie.Start
-start c = c.before.before.before
-
-pub put-column-spec : {M : Type 1} → statement M
-put-column-spec = tie.close (tie.spec
+pub put_column_spec : {M : Type 1} → statement M
+put_column_spec = tie.close (tie.spec
     (λ c. search rules) (λ c. search rules) (λ c κs. rw length-set (omega arith))
     (λ c. let p = c.before.before in
-    let s = (start p).args in
-    ap length p.put-number.ensures.laid ∙ length-lay _ _ _ ∙ length-set s.out.now s.at s.gap)
-    (λ c. let p = c.before.before in
-    record { laid = p.put-number.ensures.laid ∙ lay_cons _ _ _ _ (start p).requires; behind = omega (arith, p.put-number.ensures) }))
+    let s = p.args in
+    ap length p.put_number.ensures.laid ∙ length-lay _ _ _ ∙ length-set s.out.now s.at s.gap)
+    (λ c. let p = c in
+    record { laid = p.put_number.ensures.laid ∙ lay_cons _ _ _ _ p.requires; behind = omega (arith, p.put_number.ensures) }))

@@ -14,21 +14,21 @@ short : (c : tie.Start) → length (decimal c.args.n) ≤ 3
 short c = decimal_short 2 c.args.n (omega arith)
 
 -- where the text is written
-abbrev start : tie.After-put-text → tie.Start
+abbrev start : tie.After-put_text-end → tie.Start
 start c = c.before.before.before.before
 
 returns : tie.Need-returns
 returns c = let t = c.before.before.before.before.before.before in
     let s = start t in
     let text = s.args.text.now in
-    let p = t.put-text.ensures in
-    let q = c.before.before.put-number.ensures in
+    let p = t.put_text-end.ensures in
+    let q = c.put_number.ensures in
     let more = length-append text (decimal s.args.n) in
-    record { puts = puts_then _ _ text (decimal s.args.n) (omega (arith, s.pre, short s)) p q; most = omega (arith, short s, p, q) }
+    record { puts = puts_then _ _ text (decimal s.args.n) (omega (arith, s.requires, short s)) p q; most = omega (arith, short s, p, q) }
 
-pub put-field-spec : {M : Type 1} → statement M
-put-field-spec = tie.close (tie.spec
+pub put_field_spec : {M : Type 1} → statement M
+put_field_spec = tie.close (tie.spec
     (λ c κs. omega arith)
-    (λ c κs. let t = c.before.before.before in omega (arith, short (start t), t.put-text.ensures, t.put-text.auto))
+    (λ c κs. let t = c.before.before.before in omega (arith, short (start t), t.put_text-end.ensures, t.put_text-end.auto))
     (λ c. search rules)
     returns)

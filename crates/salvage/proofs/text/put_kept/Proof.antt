@@ -8,14 +8,16 @@ use Rattle.salvage.proofs.text.put_kept.Statement.{statement}
 use Rattle.salvage.proofs.text.put_kept.Tie as tie
 
 returns : tie.Need-returns
-returns c = let t = c.before.before.put-text in
+returns c = let t = c.put_text in
     let m = c.before.before.before.before.before.before.before in
-    let h = m.before.before.before.before in
-    let s = h.before.before.before.before.before.before in
-    let two = behind h.put-head.ensures m.put-changes.ensures (omega (arith, s.requires.1)) in
+    let h = m in
+    let s = h in
+    let two = behind h.put_head-end.ensures m.put_changes-end.ensures (omega (arith, s.requires.1)) in
     behind two (short {m = 1} t.ensures (le_refl _)) s.requires.1
 
-pub put-kept-spec : {M : Type 1} → statement M
-put-kept-spec = tie.close (tie.spec
-    (λ c. search rules) (λ c κs. search rules) (λ c κs. search rules) (λ c. search rules) (λ c κs. search rules) (λ c. search rules)
+pub put_kept_spec : {M : Type 1} → statement M
+put_kept_spec = tie.close (tie.spec (λ c κs. search rules)
+    (λ c κs. search rules)
+    (λ c κs. search rules)
+    (λ c. search rules)
     returns)

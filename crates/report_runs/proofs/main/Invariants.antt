@@ -1,0 +1,6 @@
+-- Both reports came from opening and entering.
+use Rattle.report.specs.Report.{Made}
+use Rattle.report_runs.proofs.main.Given as goal
+
+abbrev pub invariant-loop : goal.invariant-loop
+invariant-loop l = Made l.own × Made l.other
