@@ -1,4 +1,6 @@
 // The desk: a mark is put together on it, column by column, and each row is held to its length.
+#![tactic(auto)]
+
 mod above;
 mod checks;
 

@@ -13,7 +13,6 @@ use Rattle.refusal.specs.Refusal.{first as firstCheck, bad_degree, outside}
 use Rattle.poly.specs.Poly.{All}
 use Rattle.codes.specs.Checks.{space_bytes}
 use Rattle.codes.proofs.Parts.{all_append}
-use Rattle.ending.specs.declared.Ending.{Ending}
 use Rattle.ending.specs.declared.Ending.TheVariants.{Corrected, Nothing, Hollow}
 use Rattle.joint.specs.Promises.{buffers, cleared}
 use Rattle.record.specs.Records.{lengths_in, limit_in, points_in, symbols_in, size_in, begins, no_mark, out_of_range, stop_of}

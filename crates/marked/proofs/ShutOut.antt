@@ -28,7 +28,7 @@ use Rattle.ending.specs.declared.Ending.TheVariants.{Corrected, Nothing, Hollow}
 use Rattle.joint.specs.Promises.{Given, Left, given, left, buffers, cleared, Decodes}
 use Rattle.joint.proofs.Unique.{unique}
 use Rattle.desk.specs.Desk.{zeros, zero_desk, with_column, placed}
-use Rattle.desk.specs.Verdict.{IsRow, Misfits, none, fits, fits_not, Verdict, Judges}
+use Rattle.desk.specs.Verdict.{IsRow, none, fits, fits_not, Verdict, Judges}
 use Rattle.desk.specs.declared.Desk.{Desk}
 use Rattle.desk.specs.declared.Judged.{Judged}
 use Rattle.desk.proofs.Verdicts.{same_count}

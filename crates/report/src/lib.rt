@@ -1,4 +1,6 @@
 // The month's figures: how the marks of one code were read, entered one by one, and two suppliers ranked by them.
+#![tactic(auto)]
+
 mod checks;
 mod counts;
 

@@ -1,5 +1,5 @@
 -- A read that gave bytes puts them behind those that are there, and an interrupted one leaves them.
-use Rattle.std.proofs.Common.{rules, arith, ◌-◌, length, take, sym, ap, ◌∙◌, subst, le_refl}
+use Rattle.std.proofs.Common.{rules, ◌-◌, length, take, sym, ap, ◌∙◌, subst, le_refl}
 use Rattle.std.proofs.lemmas.Slice.{take-put_mid_below}
 use Rattle.std.specs.Io.KnownBytes.{Consumes}
 use Rattle.std.proofs.KnownBytes.{Consumes-trans, Consumes-kept}

@@ -14,7 +14,6 @@ use Rattle.poly.specs.Poly.{All}
 use Rattle.desk.specs.Desk.{nonzero_rows}
 use Rattle.desk.proofs.Columns.{row_end}
 use Rattle.desk.proofs.Raising.{row_part, flag_none, flag_some, Counts, counts_begin, counts-again, counts_end}
-use borrow.Author.Tests.{not-true, not-false}
 use borrow.Author.Rules.{rules}
 use Rattle.desk.proofs.above.nonzero_rows.Statement.{statement}
 use Rattle.desk.proofs.above.nonzero_rows.Tie as tie
