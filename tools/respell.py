@@ -184,9 +184,6 @@ def turn_rt(text, turned):
 
 def main():
     turned, clashes = table()
-    with open("/tmp/respelled.tsv", "w") as f:
-        for old in sorted(turned):
-            f.write("%s\t%s\n" % (old, turned[old]))
     for old, to in clashes:
         print("falls together: %s -> %s" % (old, to))
     new = set(turned.values())

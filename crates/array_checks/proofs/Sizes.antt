@@ -1,4 +1,4 @@
--- `sizes-of`: what the checks of a code leave of its lengths and points.
+-- `sizes_of`: what the checks of a code leave of its lengths and points.
 -- Assumes nothing.
 use Rattle.codes.specs.Code.{Code}
 use Rattle.codes.proofs.Passed.{Counts}

@@ -5,7 +5,7 @@
 --   flags_same         tests that agree at each column have the same flags
 --   points_where f xs   the points of xs at whose column f holds
 --   count_where        they are as many as the flags add up to
---   distinct_where     of distinct points they are distinct; all_where, mem-where: they are points of xs
+--   distinct_where     of distinct points they are distinct; all_where, mem_where: they are points of xs
 --   where_exactly      P holds of each exactly when at every column P holds or f does not
 --   where_mem          of distinct points: f holds at a column exactly when its point is one of them
 -- Assumes nothing.

@@ -3,7 +3,7 @@
 --   all_right, distinct_right   what holds of every entry holds of them; of distinct entries they are distinct
 --   right_flags                 they and the flags of a test of columns are as many as the columns
 --   right-map                   those of a list of values are the values of those
---   rightRows: length-rows, all_rows    how long the rows are, and what holds of every symbol
+--   right_rows: length-rows, all_rows    how long the rows are, and what holds of every symbol
 --   rank fs i                   how many of the columns before i are flagged 0: where column i comes to stand
 --   rank_below, right_at        it is one of the entries that are left, and entry i
 --   core-differs                two arrays differ in a column that is left exactly when what is left of them does

@@ -1,4 +1,4 @@
--- The laws of `withColumn`.
+-- The laws of `with_column`.
 --
 --   length-column    the length stays
 --   all_column       what holds of every entry, and of the symbols, holds of every entry afterwards

@@ -1,7 +1,7 @@
 -- The wrong columns: a code array gives a locator, and a locator of the least size that divides has its roots there.
 --
 --   code_locator       the points at which a code array differs from y give a locator, of as many as they are
---   root_at c E i       E is zero at the point of column i; root_flags, rootCount: of n flags, and how many
+--   root_at c E i       E is zero at the point of column i; root_flags, root_count: of n flags, and how many
 --   wrong_columns      if E of the least size divides, the wrong columns are its roots, and they are t
 --   right-columns      in the others every row is as received
 --   roots_divide       a locator of size t with t roots among the points divides

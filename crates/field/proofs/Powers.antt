@@ -6,7 +6,7 @@
 --   halved_twice        a symbol's half is a symbol, and x times it is that symbol
 --   power-add           x^i · x^j = x^(i + j)
 --   power-inverse       x^i and x^(2 ^ d − 1 − i) are inverse to each other
---   exponent d b        the exponent of a nonzero symbol; power-exponent: x to it is b; exponent_below
+--   exponent d b        the exponent of a nonzero symbol; power_exponent: x to it is b; exponent_below
 --   over_times          division undoes the product
 --   over_unique         nothing else does
 -- Assumes nothing.

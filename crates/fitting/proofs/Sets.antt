@@ -1,7 +1,7 @@
 -- The sets of columns that are tried: they are all there, and in 02's order.
 --
 --   IsSet n t W         W is a set of t of n columns: n flags, t of them 1; no_columns, that without columns
---   sets_are, sets_all  `setsOf t n` has such sets, and all of them; few_sets, at most 2 to the power n
+--   sets_are, sets_all  `sets_of t n` has such sets, and all of them; few_sets, at most 2 to the power n
 --   sets_from i s n      the sets of i to i + s − 1 columns; more_sets, of one size more
 --   are_from, all_from  they are sets of so many columns, and all of them
 --   Sorted R l          R holds of each entry and every later one

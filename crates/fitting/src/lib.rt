@@ -116,6 +116,7 @@ fn keep(degree: u32, factors: &[u8], rows: usize, array: &mut [u8], count: usize
 }
 
 // Tries a set, with so many arrays found before it: the one that fits is laid in the room. Answers how many are found then.
+#[inline(never)]
 fn try_set(
     table: &Table,
     degree: u32,

@@ -6,7 +6,7 @@
 --   sectors            each x below q² has q points, and their y are distinct symbols
 --   orders             an m that is not bad is from q² − 1 to q³ − 1
 --   Room q m j, room   what working out k_j in numbers of the machine asks
---   ring_lengths_lem       every k_j is from 1 to q²; ring_rows, ring-cells: there are q of them, and q³ symbols in an array
+--   ring_lengths_lem       every k_j is from 1 to q²; ring_rows, ring_cells: there are q of them, and q³ symbols in an array
 --   first_judged       only the first of them can be q²; refused_orders, so it is from m = q³ − q on
 --   ring_proper        the code of the arrays of H(m) is proper; ring_counts, its counts are within the limits
 -- Assumes nothing.

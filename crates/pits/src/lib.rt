@@ -297,7 +297,7 @@ fn weights(table: &Table, q: u32, m: u32, xs: &[u8], ys: &[u8], ring: &[u8]) -> 
     used
 }
 
-// The received symbols plus N + typeof.r.L of the first line after a run over the points at which used is not zero.
+// The received symbols plus N + r·L of the first line after a run over the points at which used is not zero.
 fn answer_by(
     table: &Table,
     q: u32,

@@ -15,7 +15,7 @@ use Rattle.std.specs.Fmt.{decimal as printed}
 use Rattle.std.proofs.lemmas.Fmt.{decimal_by_steps}
 use Rattle.record.specs.Lines.{decimal_by, decimal}
 
--- the two clauses of `decimalBy`
+-- the two clauses of `decimal_by`
 one_digit : (f n : ℕ) → n < 10 → decimal_by f n ≡ (48 + n) ∷ []
 unfolding decimal_by
 one_digit zero n h = refl

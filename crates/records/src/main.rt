@@ -2,7 +2,7 @@
 // ends at the end of the input, after a line that stops the reading, and where a read or a write fails.
 #![tactic(auto)]
 
-ghost use Rattle.std.specs.Prelude.{◌<◌, ◌≤◌, length, take, IfOk, OnOk};
+ghost use Rattle.std.specs.Prelude.{◌≡◌, ◌<◌, ◌≤◌, length, take, IfOk, OnOk};
 ghost use Rattle.std.specs.Io.KnownBytes.{Appends, Consumes, IsAtEnd};
 ghost use Rattle.record.specs.Records.{wanted};
 ghost use Rattle.records.specs.Held.{Held};
@@ -17,6 +17,7 @@ use std::io::{Read, Write};
 // are wanted where the input ends.
 fn next_record<R: Read>(input: &mut R, held: &mut [u8]) -> io::Result<usize>
     requires { 490 ≤ length held.old }
+    ensures same_length { length held.new ≡ length held.old }
     ensures held { IfOk result (λ n. Held held.new n) }
     ensures bytes { IfOk result
         (λ n. Consumes (R.remaining input.old) (R.remaining input.new) (take n held.new)) }
@@ -53,7 +54,8 @@ fn next_line<R: Read, W: Write>(
     held: &mut [u8],
 ) -> io::Result<bool>
     requires { 490 ≤ length held.old }
-    ensures { IfOk result (λ more. Answered number (R.remaining input.old) (R.remaining input.new)
+    ensures same_length { length held.new ≡ length held.old }
+    ensures answered { IfOk result (λ more. Answered number (R.remaining input.old) (R.remaining input.new)
         (W.contents out.old) (W.contents out.new) more) }
 {
     let got = next_record(input, held)?;

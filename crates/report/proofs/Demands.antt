@@ -4,7 +4,7 @@
 --   columns-add_up     the columns' counts add up to the total
 --   others_zero        the places of columns that the code does not have are zero
 --   most_marks         it is of a million marks at most
--- That its figures are those of the marks entered is `figures-of` of History.
+-- That its figures are those of the marks entered is `figures_of` of History.
 -- Assumes nothing.
 use mathlib.Core.Path.{◌≡◌, refl, ap, ap₂, ◌∙◌}
 use mathlib.Core.Bool.{Bool, true, false, cond, ◌&&◌}

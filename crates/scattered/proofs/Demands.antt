@@ -15,7 +15,7 @@
 --   none_far            'none': no word is within τ symbols
 --
 -- The limit, and the one number for the C caller.
---   limit_37            'For H(37) that is up to 10 symbols'; limit_57, limit-58: for H(57) it is 0, for H(58) and H(59) below zero
+--   limit_37            'For H(37) that is up to 10 symbols'; limit_57, limit_58: for H(57) it is 0, for H(58) and H(59) below zero
 --   detail_small        the detail is below 256, so that the number tells the ending and the detail
 -- Assumes nothing.
 use mathlib.Core.Path.{◌≡◌, refl, ap}

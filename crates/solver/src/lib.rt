@@ -74,7 +74,7 @@ pub fn run(
     requires degree_value { (bad_degree degree ≡ false) × IsTable degree table.now × All (IsSymbol degree) points.now }
     requires points_len_bound { (length points.now ≤ 380) × (0 < lines) × (lines ≤ 5) × (line_slots * lines ≤ length space.old) }
     requires holds_some { HoldsSome degree (length points.now) lines 0 leads.old space.old }
-    ensures { Runs degree points.now lines leads.old space.old leads.new space.exit.now }
+    ensures { Runs degree points.now lines leads.old space.old leads.new space.new }
 {
     let mut xs = [0u8; 784];
     rows::store(points, &mut xs, 0);

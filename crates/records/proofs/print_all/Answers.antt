@@ -8,5 +8,5 @@ pub loop-number-preserved : goal.loop-number-preserved
 loop-number-preserved g c =
     let number = c.loop-number.number in (
       search rules,
-      at_next number _ _ _ _ _ _ c.loop-number.invariant.1 (subst (Answered number _ _ _ _) c.if-not-branch.false c.in_ok-next_line.ensures),
+      at_next number _ _ _ _ _ _ c.loop-number.invariant.1 (subst (Answered number _ _ _ _) c.if-not-branch.false c.in_ok-next_line.ensures.answered),
     )
