@@ -104,7 +104,8 @@ module _ (number : ℕ) (had has next was now then : Option (List ℕ)) where
             Appends-trans was now then lines line put put',
             (
               omega (arith, so.0, goes.0, ap length same),
-              λ rest h. subst (Prints 1 b) (sym (append_assoc lines line rest)) (so.1 (line ++ rest) (subst (λ l. Prints number l (line ++ rest)) same (goes.1 rest h))),
+              λ rest h. subst (Prints 1 b) (sym (append_assoc lines line rest))
+                  (so.1 (line ++ rest) (subst (λ l. Prints number l (line ++ rest)) same (goes.1 rest h))),
             ),
           )
 
