@@ -2,47 +2,37 @@
 // answers; a refusal is `!` and its number. What it writes is held to the answers of another program (tests/second).
 #![tactic(auto)]
 
-use field::Value;
-use reading::read_full;
-use std::io;
-use std::io::{Read, Write};
+use reading::read_frame;
+use refusal::Refusal;
+use std::io::Write;
+use std::{fmt, io};
 
-fn show(out: &mut impl Write, v: Value) -> io::Result<()> {
-    match v {
-        Value::Symbol(s) => write!(out, "{s}"),
-        Value::Refused(k) => write!(out, "!{k}"),
+// An answer, as it is written.
+#[derive(Clone, Copy)]
+struct Shown(Result<u8, Refusal>);
+
+impl fmt::Display for Shown {
+    fn fmt<W: fmt::Write>(&self, f: &mut fmt::Formatter<W>) -> fmt::Result {
+        match self.0 {
+            Ok(symbol) => write!(f, "{symbol}"),
+            Err(refused) => write!(f, "!{}", refused.number()),
+        }
     }
-}
-
-fn wide(x: u8) -> u32 {
-    x as u32
-}
-
-// Answers the next three bytes, and whether they were there.
-fn next_line(input: &mut impl Read, out: &mut impl Write) -> io::Result<bool> {
-    let mut given = [0u8; 3];
-    if read_full(input, &mut given)? < 3 {
-        return Ok(false);
-    }
-    let degree = wide(given[0]);
-    let a = given[1];
-    let b = given[2];
-    show(out, field::sum(degree, a, b))?;
-    write!(out, " ")?;
-    show(out, field::product(degree, a, b))?;
-    write!(out, " ")?;
-    show(out, field::quotient(degree, a, b))?;
-    writeln!(out)?;
-    Ok(true)
 }
 
 fn main(rt: HostRuntime) -> io::Result<()> {
     let mut input = rt.stdin();
     let mut out = rt.stdout();
     for _ in 0..u64::MAX {
-        if !next_line(&mut input, &mut out)? {
+        let Some(frame) = read_frame(&mut input)? else {
             break;
-        }
+        };
+        let [degree, a, b]: [u8; 3] = frame;
+        let degree = u32::from(degree);
+        let sum = Shown(field::sum(degree, a, b));
+        let product = Shown(field::product(degree, a, b));
+        let quotient = Shown(field::quotient(degree, a, b));
+        writeln!(out, "{sum} {product} {quotient}")?;
     }
     Ok(())
 }

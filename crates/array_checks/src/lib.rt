@@ -3,6 +3,7 @@
 
 ghost use Rattle.std.specs.Prelude.{◌≡◌, true, false, ◌↔◌, List, [], ◌∷◌, ◌++◌, ℕ, ◌*◌, ◌≤◌, length};
 ghost use Rattle.refusal.specs.Refusal.{◌when◌, bad_degree, bad_points, first, some_outside, some_outside_field};
+ghost use Rattle.refusal.specs.Numbers.{refused};
 ghost use Rattle.poly.specs.Poly.{All};
 ghost use Rattle.codes.specs.Code.{code_of, joint_limit, largest, total};
 ghost use Rattle.codes.specs.Factors.{description_of};
@@ -10,46 +11,25 @@ ghost use Rattle.codes.specs.Checks.{array_checks_of, bad_factors, buffer_checks
 ghost use Rattle.codes.specs.Checks.{encode_checks, lost_checks, read_checks, remaining_checks};
 ghost use Rattle.array_checks.specs.Working.{Sizes};
 
-use field::tables;
+use field::Field;
+use refusal::Refusal;
 
 // For the crates above: the bytes of the working space that a decoding takes.
 pub const SPACE: usize = 49152;
-
-// For the crates above: a byte as a count.
-pub fn wide(x: u8) -> usize
-    ensures { result ≡ x }
-{
-    x as usize
-}
 
 // For the crates above: the sum of the message lengths.
 pub fn total(lengths: &[u8]) -> usize
     requires { length lengths.now ≤ 4 }
     ensures { result ≡ total lengths.now }
 {
-    let mut sum = 0;
-    let mut i = 0;
-    while i < lengths.len() {
-        sum += wide(lengths[i]);
-        i += 1;
-    }
-    sum
+    lengths.iter().map(|k| usize::from(*k)).sum()
 }
 
 // For the crates above: the largest of the message lengths.
 pub fn largest(lengths: &[u8]) -> usize
     ensures { result ≡ largest lengths.now }
 {
-    let mut most = 0;
-    let mut i = 0;
-    while i < lengths.len() {
-        let k = wide(lengths[i]);
-        if most < k {
-            most = k;
-        }
-        i += 1;
-    }
-    most
+    lengths.iter().fold(0, |most, k| most.max(usize::from(*k)))
 }
 
 // The number of symbols of an array.
@@ -68,7 +48,7 @@ fn limit_from(lengths: &[u8], points: &[u8], most: usize) -> usize
 {
     let spare = (cells(lengths, points) - total(lengths)) / (lengths.len() + 1);
     let short = points.len() - most;
-    if spare < short { spare } else { short }
+    spare.min(short)
 }
 
 // For the crates above: the joint limit, of whatever degree the code is.
@@ -79,39 +59,37 @@ pub fn joint_limit(lengths: &[u8], points: &[u8]) -> usize
     limit_from(lengths, points, largest(lengths))
 }
 
-// For the crates above: the first of the checks 1 to 4 and 18 that applies, where so many points are the most; 0 where none does.
-pub fn code_refusal(most: usize, degree: u32, lengths: &[u8], points: &[u8]) -> u8
-    ensures { result ≡ first (shape_checks most (code_of degree points.now lengths.now)) }
+// For the crates above: the first of the checks 1 to 4 and 18 that applies, where so many points are the most.
+pub fn code_refusal(most: usize, degree: u32, lengths: &[u8], points: &[u8]) -> Result<(), Refusal>
+    ensures { refused result ≡ first (shape_checks most (code_of degree points.now lengths.now)) }
 {
     if refusal::bad_degree(degree) {
-        return 1;
+        return Err(Refusal::Degree);
     }
     if refusal::outside(1, 4, lengths.len()) {
-        return 2;
+        return Err(Refusal::Rows);
     }
     if refusal::outside(1, most, points.len()) {
-        return 3;
+        return Err(Refusal::Columns);
     }
     let outside = refusal::some_outside(1, points.len(), lengths);
     let unchecked = refusal::is_in(points.len(), lengths);
     if outside {
-        return 4;
+        return Err(Refusal::Lengths);
     }
     if unchecked {
-        return 18;
+        return Err(Refusal::Unchecked);
     }
-    0
+    Ok(())
 }
 
 // For the crates above: whether all factors are one. All of them are looked at, so that the loop vectorises.
 pub fn all_ones(factors: &[u8]) -> bool
     ensures { (result ≡ true) ↔ All (λ (f : ℕ). f ≡ 1) factors.now }
 {
-    let mut bits: u8 = 0;
-    let mut i = 0;
-    while i < factors.len() {
-        bits |= factors[i] ^ 1;
-        i += 1;
+    let mut bits = 0;
+    for f in factors {
+        bits |= *f ^ 1;
     }
     bits == 0
 }
@@ -125,62 +103,64 @@ fn bad_factors(degree: u32, factors: &[u8], ones: bool) -> bool
     if ones {
         return false;
     }
-    refusal::some_outside(1, tables::size(degree) - 1, factors)
+    refusal::some_outside(1, Field::size(degree) - 1, factors)
 }
 
-// The first of the checks 6 and 23 that applies, 0 where none does.
-fn known_refusal(degree: u32, points: &[u8], factors: &[u8], ones: bool) -> u8
+// The first of the checks 6 and 23 that applies.
+fn known_refusal(degree: u32, points: &[u8], factors: &[u8], ones: bool) -> Result<(), Refusal>
     requires degree_value { bad_degree degree ≡ false }
     requires all { ones ≡ true → All (λ (f : ℕ). f ≡ 1) factors.now }
-    ensures { result ≡ first ((6 when bad_points degree points.now)
+    ensures { refused result ≡ first ((6 when bad_points degree points.now)
         ∷ (23 when bad_factors degree factors.now) ∷ []) }
 {
     if refusal::bad_points(degree, points) {
-        return 6;
+        return Err(Refusal::Points);
     }
     if bad_factors(degree, factors, ones) {
-        return 23;
+        return Err(Refusal::Factors);
     }
-    0
+    Ok(())
 }
 
-// For the crates above: the first of the checks 6 and 23 that applies, 0 where none does.
-pub fn columns_refusal(degree: u32, points: &[u8], factors: &[u8]) -> u8
+// For the crates above: the first of the checks 6 and 23 that applies.
+pub fn columns_refusal(degree: u32, points: &[u8], factors: &[u8]) -> Result<(), Refusal>
     requires { bad_degree degree ≡ false }
-    ensures { result ≡ first ((6 when bad_points degree points.now)
+    ensures { refused result ≡ first ((6 when bad_points degree points.now)
         ∷ (23 when bad_factors degree factors.now) ∷ []) }
 {
     known_refusal(degree, points, factors, all_ones(factors))
 }
 
-// For the crates above: 7 where check 7 applies, 0 where it does not.
-pub fn symbols_refusal(degree: u32, symbols: &[u8]) -> u8
-    ensures { result ≡ first ((7 when some_outside_field degree symbols.now) ∷ []) }
+// For the crates above: check 7, if it applies.
+pub fn symbols_refusal(degree: u32, symbols: &[u8]) -> Result<(), Refusal>
+    ensures { refused result ≡ first ((7 when some_outside_field degree symbols.now) ∷ []) }
 {
     if refusal::some_outside_field(degree, symbols) {
-        7
-    } else {
-        0
+        return Err(Refusal::Symbols);
     }
+    Ok(())
 }
 
-// The first of the checks 6, 23 and 7 that applies, 0 where none does.
-fn contents_refusal(degree: u32, points: &[u8], factors: &[u8], ones: bool, symbols: &[u8]) -> u8
+// The first of the checks 6, 23 and 7 that applies.
+fn contents_refusal(
+    degree: u32,
+    points: &[u8],
+    factors: &[u8],
+    ones: bool,
+    symbols: &[u8],
+) -> Result<(), Refusal>
     requires degree_value { bad_degree degree ≡ false }
     requires all { ones ≡ true → All (λ (f : ℕ). f ≡ 1) factors.now }
-    ensures { result ≡ first ((6 when bad_points degree points.now) ∷ (23 when bad_factors degree factors.now)
+    ensures { refused result ≡ first ((6 when bad_points degree points.now) ∷ (23 when bad_factors degree factors.now)
         ∷ (7 when some_outside_field degree symbols.now) ∷ []) }
 {
     let of_columns = known_refusal(degree, points, factors, ones);
     let of_symbols = symbols_refusal(degree, symbols);
-    if of_columns != 0 {
-        return of_columns;
-    }
-    of_symbols
+    of_columns.and(of_symbols)
 }
 
 // The first of the checks 1 to 7 that applies to a message and an array of these lengths, of which the symbols are the
-// input; 0 where none does.
+// input.
 fn buffers_refusal(
     degree: u32,
     lengths: &[u8],
@@ -189,26 +169,23 @@ fn buffers_refusal(
     message: usize,
     array: usize,
     symbols: &[u8],
-) -> u8
+) -> Result<(), Refusal>
     ensures { (m a : List ℕ) → length m ≡ message → length a ≡ array
-        → result ≡ first (code_checks (code_of degree points.now lengths.now)
+        → refused result ≡ first (code_checks (code_of degree points.now lengths.now)
         ++ buffer_checks (description_of degree points.now factors.now lengths.now) m a
         symbols.now) }
 {
-    let k = code_refusal(96, degree, lengths, points);
-    if k != 0 {
-        return k;
-    }
+    code_refusal(96, degree, lengths, points)?;
     if (message != total(lengths))
         | (array != cells(lengths, points))
         | (factors.len() != points.len())
     {
-        return 5;
+        return Err(Refusal::Buffers);
     }
     contents_refusal(degree, points, factors, all_ones(factors), symbols)
 }
 
-// For the crates above: the first check of encoding that applies, 0 where none does. Of the array's buffer the checks read
+// For the crates above: the first check of encoding that applies. Of the array's buffer the checks read
 // the length alone, its room.
 pub fn encode_refusal(
     degree: u32,
@@ -217,9 +194,9 @@ pub fn encode_refusal(
     factors: &[u8],
     message: &[u8],
     room: usize,
-) -> u8
+) -> Result<(), Refusal>
     ensures { (a : List ℕ) → length a ≡ room
-        → result ≡ first (encode_checks (description_of degree points.now factors.now lengths.now)
+        → refused result ≡ first (encode_checks (description_of degree points.now factors.now lengths.now)
         message.now a) }
 {
     buffers_refusal(
@@ -233,7 +210,7 @@ pub fn encode_refusal(
     )
 }
 
-// For the crates above: the first of the checks 1 to 7 of reading that applies, 0 where none does. Of the message's buffer
+// For the crates above: the first of the checks 1 to 7 of reading that applies. Of the message's buffer
 // the checks read the length alone, its room.
 pub fn read_refusal(
     degree: u32,
@@ -242,15 +219,15 @@ pub fn read_refusal(
     factors: &[u8],
     array: &[u8],
     room: usize,
-) -> u8
+) -> Result<(), Refusal>
     ensures { (m : List ℕ) → length m ≡ room
-        → result ≡ first (read_checks (description_of degree points.now factors.now lengths.now)
+        → refused result ≡ first (read_checks (description_of degree points.now factors.now lengths.now)
         array.now m) }
 {
     buffers_refusal(degree, lengths, points, factors, room, array.len(), array)
 }
 
-// The first of the checks 5, 6, 23 and 7 of decoding that applies, where arrays have so many cells; 0 where none does. Of the buffers for
+// The first of the checks 5, 6, 23 and 7 of decoding that applies, where arrays have so many cells. Of the buffers for
 // the answer, the flags and the working space the checks read the lengths alone.
 fn lent_refusal(
     cells: usize,
@@ -262,11 +239,11 @@ fn lent_refusal(
     answer: usize,
     flags: usize,
     space: usize,
-) -> u8
+) -> Result<(), Refusal>
     requires degree_value { bad_degree degree ≡ false }
     requires all { ones ≡ true → All (λ (f : ℕ). f ≡ 1) factors.now }
     ensures { (ks a f w : List ℕ) → length a ≡ answer → length f ≡ flags → length w ≡ space
-        → result ≡ first (received_checks cells (description_of degree points.now factors.now ks)
+        → refused result ≡ first (received_checks cells (description_of degree points.now factors.now ks)
         received.now a f w) }
 {
     let n = points.len();
@@ -276,13 +253,13 @@ fn lent_refusal(
         | (space < SPACE)
         | (factors.len() != n)
     {
-        return 5;
+        return Err(Refusal::Buffers);
     }
     contents_refusal(degree, points, factors, ones, received)
 }
 
-// For the crates above: the first of the checks 5, 6, 23 and 7 of decoding that applies, where arrays have so many cells; 0 where none
-// does. Of the buffers for the answer, the flags and the working space the checks read the lengths alone.
+// For the crates above: the first of the checks 5, 6, 23 and 7 of decoding that applies, where arrays have so many cells.
+// Of the buffers for the answer, the flags and the working space the checks read the lengths alone.
 pub fn received_refusal(
     cells: usize,
     degree: u32,
@@ -292,10 +269,10 @@ pub fn received_refusal(
     answer: usize,
     flags: usize,
     space: usize,
-) -> u8
+) -> Result<(), Refusal>
     requires { bad_degree degree ≡ false }
     ensures { (ks a f w : List ℕ) → length a ≡ answer → length f ≡ flags → length w ≡ space
-        → result ≡ first (received_checks cells (description_of degree points.now factors.now ks)
+        → refused result ≡ first (received_checks cells (description_of degree points.now factors.now ks)
         received.now a f w) }
 {
     lent_refusal(
@@ -311,7 +288,7 @@ pub fn received_refusal(
     )
 }
 
-// The first of the checks 1 to 7 of decoding that applies, 0 where none does. Of the buffers for the answer, the flags and the
+// The first of the checks 1 to 7 of decoding that applies. Of the buffers for the answer, the flags and the
 // working space the checks read the lengths alone.
 fn array_refusal(
     degree: u32,
@@ -323,16 +300,13 @@ fn array_refusal(
     answer: usize,
     flags: usize,
     space: usize,
-) -> u8
+) -> Result<(), Refusal>
     requires { ones ≡ true → All (λ (f : ℕ). f ≡ 1) factors.now }
     ensures { (a f w : List ℕ) → length a ≡ answer → length f ≡ flags → length w ≡ space
-        → result ≡ first (array_checks_of (description_of degree points.now factors.now lengths.now)
+        → refused result ≡ first (array_checks_of (description_of degree points.now factors.now lengths.now)
         received.now a f w) }
 {
-    let k = code_refusal(96, degree, lengths, points);
-    if k != 0 {
-        return k;
-    }
+    code_refusal(96, degree, lengths, points)?;
     lent_refusal(
         cells(lengths, points),
         degree,
@@ -346,30 +320,34 @@ fn array_refusal(
     )
 }
 
-// For the crates above: the first of the checks 16, 17 and 8 that applies to lost columns of a code, of whatever degree; 0
-// where none does.
-pub fn remaining_refusal(lengths: &[u8], points: &[u8], limit: u32, lost: &[u8]) -> u8
+// For the crates above: the first of the checks 16, 17 and 8 that applies to lost columns of a code, of whatever degree.
+pub fn remaining_refusal(
+    lengths: &[u8],
+    points: &[u8],
+    limit: u32,
+    lost: &[u8],
+) -> Result<(), Refusal>
     requires lengths_len_bound { length lengths.now ≤ 4 }
     requires in_bounds { (1 ≤ length points.now) × (length points.now ≤ 96) }
     requires lengths_value { some_outside 1 (length points.now) lengths.now ≡ false }
     ensures { (d : ℕ)
-        → result ≡ first (remaining_checks (code_of d points.now lengths.now) limit lost.now) }
+        → refused result ≡ first (remaining_checks (code_of d points.now lengths.now) limit lost.now) }
 {
     if refusal::bad_columns(points.len(), lost) {
-        return 16;
+        return Err(Refusal::LostColumns);
     }
     let left = points.len() - lost.len();
     let most = largest(lengths);
     if left < most {
-        return 17;
+        return Err(Refusal::TooFewLeft);
     }
     if limit_from(lengths, &points[..left], most) < limit as usize {
-        return 8;
+        return Err(Refusal::Limit);
     }
-    0
+    Ok(())
 }
 
-// For the crates above: the first check of decoding with lost columns that applies, 0 where none does. Of the buffers for the
+// For the crates above: the first check of decoding with lost columns that applies. Of the buffers for the
 // answer, the flags and the working space the checks read the lengths alone; the caller knows whether all factors are one.
 pub fn lost_refusal(
     degree: u32,
@@ -383,17 +361,14 @@ pub fn lost_refusal(
     answer: usize,
     flags: usize,
     space: usize,
-) -> u8
+) -> Result<(), Refusal>
     requires { ones ≡ true → All (λ (f : ℕ). f ≡ 1) factors.now }
     ensures { (a f w : List ℕ) → length a ≡ answer → length f ≡ flags → length w ≡ space
-        → result ≡ first (lost_checks (description_of degree points.now factors.now lengths.now)
+        → refused result ≡ first (lost_checks (description_of degree points.now factors.now lengths.now)
         limit lost.now received.now a f w) }
 {
-    let k = array_refusal(
+    array_refusal(
         degree, lengths, points, factors, ones, received, answer, flags, space,
-    );
-    if k != 0 {
-        return k;
-    }
+    )?;
     remaining_refusal(lengths, points, limit, lost)
 }

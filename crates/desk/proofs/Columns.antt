@@ -6,10 +6,10 @@
 --   column_other     what stands at any other place stays
 --   row_end, cell    where a row ends, and that a place by row and column is inside the array
 --   one_cell         another column's place is another place
---   Writing d₀ i s d start l    the loop that writes a column: what is left to write completes the whole
+--   Writing d₀ i s d l    the loop that writes a column: what is left to write completes the whole
 --   writing_begin, writing-again, writing_end    its turns
 -- Assumes nothing.
-use mathlib.Core.Path.{◌≡◌, refl, sym, ap, ap₂, ◌∙◌}
+use mathlib.Core.Path.{◌≡◌, refl, ap, ap₂, ◌∙◌}
 use mathlib.Core.List.{List, [], ◌∷◌}
 use Prim.Native.Nat.{ℕ, zero, suc, ◌+◌, ◌*◌, ◌≤◌, ◌<◌}
 use native.Mathlib.Nat.{zero-mul, zero-add, suc-mul, mul-le-mul_right}
@@ -73,26 +73,22 @@ one_cell n l m j i p q e = go (dec_lt l m) (dec_lt m l)
     go (no h) (yes g) = absurd (omega (arith, cell l n m i g q))
     go (no h) (no g) = let same : l ≡ m = omega arith in omega (arith, ap (λ (k : ℕ). k * n) same)
 
-pub record Writing (d₀ : Desk) (i : ℕ) (s : List ℕ) (d : Desk) (start l : ℕ) : Type 0 where
-  pub within : l ≤ length s
-  pub place : start ≡ l * d₀.columns
+pub record Writing (d₀ : Desk) (i : ℕ) (s : List ℕ) (d : Desk) (l : ℕ) : Type 0 where
   pub others : d ≡ with_array d₀ d.array d₀.above d₀.misfits
-  pub written : with_column d₀.columns (start + i) (drop l s) d.array ≡ with_column d₀.columns i s d₀.array
+  pub written : with_column d₀.columns (l * d₀.columns + i) (drop l s) d.array ≡ with_column d₀.columns i s d₀.array
 
-pub writing_begin : (d : Desk) (i : ℕ) (s : List ℕ) → Writing d i s d 0 0
-writing_begin d i s = record { within = omega arith; place = sym (zero-mul d.columns); others = refl; written = rw zero-add }
+pub writing_begin : (d : Desk) (i : ℕ) (s : List ℕ) → Writing d i s d 0
+writing_begin d i s = record { others = refl; written = rw (zero-mul, zero-add) }
 
-module _ {d₀ : Desk} {i : ℕ} {s : List ℕ} {d : Desk} {start l : ℕ} (w : Writing d₀ i s d start l) where
+module _ {d₀ : Desk} {i : ℕ} {s : List ℕ} {d : Desk} {l : ℕ} (w : Writing d₀ i s d l) where
   pub writing-again : (x : ℕ) → x ≡ get_or s l 0 → l < length s
-      → Writing d₀ i s (with_array d (set d.array (start + i) x) d.above d.misfits) (start + d₀.columns) (l + 1)
+      → Writing d₀ i s (with_array d (set d.array (l * d₀.columns + i) x) d.above d.misfits) (l + 1)
   unfolding with_column
   writing-again x e h = record {
-    within = omega arith;
-    place = rw add-one (omega (arith, suc-mul l d₀.columns, w.place));
-    others = ap (λ (f : Desk). with_array f (set d.array (start + i) x) f.above f.misfits) w.others;
+    others = ap (λ (f : Desk). with_array f (set d.array (l * d₀.columns + i) x) f.above f.misfits) w.others;
     written =
-        ap₂ (λ (j y : ℕ). with_column d₀.columns j (drop (l + 1) s) (set d.array (start + i) y)) (omega arith) e
-        ∙ step (start + i) d.array ∙ w.written;
+        ap₂ (λ (j y : ℕ). with_column d₀.columns j (drop (l + 1) s) (set d.array (l * d₀.columns + i) y)) (rw add-one (omega (arith, suc-mul l d₀.columns))) e
+        ∙ step (l * d₀.columns + i) d.array ∙ w.written;
   }
     where
       step : (j : ℕ) (a : List ℕ)

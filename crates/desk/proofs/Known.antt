@@ -33,7 +33,7 @@ use Rattle.codes.proofs.Parts.{all-at, all_take, all_drop}
 use Rattle.codes.proofs.Proper.{lengths_test}
 use Rattle.codes.proofs.Factors.{Factor}
 use Rattle.mark.specs.Promises.{meaning}
-use Rattle.mark.proofs.Handed.{handed}
+use Rattle.mark.proofs.Handing.{handed}
 use Rattle.desk.specs.Desk.{desk_code, zeros, zero_desk, spare, open_checks, put_checks, with_array, placed}
 use Rattle.desk.specs.Desk.{Above, nonzero_rows, Known, Next, Made, opened, put}
 use Rattle.desk.specs.Verdict.{IsRow, Verdict}
@@ -230,10 +230,10 @@ module _ (d e : Desk) (i : ℕ) (s : List ℕ) {front : List ℕ} (copy : front 
   )
 
 pub known : {d : Desk} → Made d → Known d
-known (opened D r h) = handed (open_checks D) (λ d. d ≡ zero_desk D) (zero_desk spare) (meaning r.outcome, r.desk) h
+known (opened D r h) = handed (open_checks D) (λ d. d ≡ zero_desk D) (zero_desk spare) (meaning r.outcome, r.next) h
     (λ none e. subst Known (sym e) (known_zero D (passed D none)))
     (λ e. subst Known (sym e) (known_zero spare spare_passed))
-known (put d i s r m h) = handed (put_checks d i s) (Next d i s) d (meaning r.outcome, r.desk) h
+known (put d i s r m h) = handed (put_checks d i s) (Next d i s) d (meaning r.outcome, r.next) h
     (λ none e. e.1)
     (λ e. subst Known (sym e) (known m))
 

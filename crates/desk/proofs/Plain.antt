@@ -22,12 +22,11 @@ use Rattle.codes.proofs.Proper.{Proper}
 use Rattle.codes.proofs.Passed.{is_right}
 use Rattle.codes.proofs.Factors.{each-one, ones_pass, divided-ones}
 use Rattle.mark.specs.Promises.{meaning}
-use Rattle.mark.proofs.Handed.{handed}
+use Rattle.mark.proofs.Handing.{handed}
 use Rattle.desk.specs.Desk.{desk_code, desk_description, array_of, zero_desk, spare, open_checks, put_checks, Next, Opens, Puts, Made}
 use Rattle.desk.specs.Verdict.{Misfits, Verdict}
 use Rattle.desk.specs.declared.Desk.{Desk}
-use Rattle.desk.specs.declared.Opened.{Opened}
-use Rattle.desk.specs.declared.Put.{Put}
+use Rattle.mark.specs.declared.Handed.{Handed}
 use Rattle.desk.proofs.Sound.{passed, described_zero, spare_passed, sound, is_array}
 use Rattle.desk.proofs.NoMisfit.{quotient_code}
 
@@ -49,13 +48,13 @@ of_itself P e = (λ h. subst P e h, λ h. subst P (sym e) h)
 described : (d : Desk) (c : Code) → desk_description d ≡ plain c → Plain d
 described d c e = e ∙ ap (λ (D : Description). plain D.code) (sym e)
 
-pub plain_opened : (c : Code) (r : Opened) → Opens (plain c) r → Plain r.desk
-plain_opened c r h = handed (open_checks (plain c)) (λ d. d ≡ zero_desk (plain c)) (zero_desk spare) (meaning r.outcome, r.desk) h
+pub plain_opened : (c : Code) (r : Handed Desk) → Opens (plain c) r → Plain r.next
+plain_opened c r h = handed (open_checks (plain c)) (λ d. d ≡ zero_desk (plain c)) (zero_desk spare) (meaning r.outcome, r.next) h
     (λ none e. subst Plain (sym e) (described (zero_desk (plain c)) c (described_zero (plain c) (passed (plain c) none))))
     (λ e. subst Plain (sym e) (described (zero_desk spare) spare.code (described_zero spare spare_passed)))
 
-pub plain-put : (d : Desk) (i : ℕ) (s : List ℕ) (r : Put) → Plain d → Puts d i s r → Plain r.desk
-plain-put d i s r p h = handed (put_checks d i s) (Next d i s) d (meaning r.outcome, r.desk) h
+pub plain-put : (d : Desk) (i : ℕ) (s : List ℕ) (r : Handed Desk) → Plain d → Puts d i s r → Plain r.next
+plain-put d i s r p h = handed (put_checks d i s) (Next d i s) d (meaning r.outcome, r.next) h
     (λ none e. subst Plain (sym e.0) p)
     (λ e. subst Plain (sym e) p)
 

@@ -3,7 +3,7 @@
 --   none_raised, row_raised    no row is raised, and one row more
 --   nonzero_exactly            a list has no nonzero symbol exactly when all are zero; flag_none, flag_some, its flag
 --   row_part                   a row as the code cuts it out
---   Counts g n r count start l    the loop that counts, of r rows of n symbols, those at which g holds: it is at the row l
+--   Counts g r count l    the loop that counts, of r rows, those at which g holds: it is at the row l
 --   counts_begin, counts-again, counts_end    its turns
 -- Assumes nothing.
 use mathlib.Core.Path.{◌≡◌, refl, sym, ap, ◌∙◌}
@@ -12,7 +12,7 @@ use mathlib.Core.Logic.{◌↔◌}
 use mathlib.Core.Bool.{Bool, true, false, true≢false}
 use mathlib.Core.List.{List}
 use Prim.Native.Nat.{ℕ, suc, ◌+◌, ◌-◌, ◌*◌, ◌≤◌, ◌<◌}
-use native.Mathlib.Nat.{zero-mul, suc-mul, add-zero, zero-add, add_assoc}
+use native.Mathlib.Nat.{suc-mul, add-zero, zero-add, add_assoc}
 use native.Mathlib.Numerals.{add-one}
 use native.Mathlib.Decide.{dec_lt}
 use native.Mathlib.Omega.{arith}
@@ -97,9 +97,9 @@ nonzero_exactly t = Iff.trans (lengths_test 0 0 t) (
 )
 
 -- a row as the code cuts it out
-pub row_part : {s : ℕ} (n l : ℕ) (t : List ℕ) → s ≡ l * n → take (s + n - s) (drop s t) ≡ part (l * n) n t
+pub row_part : (n l : ℕ) (t : List ℕ) → take (l * n + n - l * n) (drop (l * n) t) ≡ part (l * n) n t
 unfolding part
-row_part {s} n l t e = let size : s + n - s ≡ n = omega arith in rw (size, e)
+row_part n l t = let size : l * n + n - l * n ≡ n = omega arith in rw size
 
 -- the flag of a list, from whether it was found to be all zero
 pub flag_none : (t : List ℕ) {z : Bool} → (z ≡ true) ↔ All (λ (a : ℕ). a ≡ 0) t → z ≡ true → flag (some_outside 0 0 t) ≡ 0
@@ -113,22 +113,17 @@ flag_some t {z} test e = by (some_outside 0 0 t) refl
     by false is = absurd (true≢false (sym (test.1 ((nonzero_exactly t).0 (sym is))) ∙ e))
 
 -- what is left to count completes the count
-pub record Counts (g : ℕ → Bool) (n r count start l : ℕ) : Type 0 where
-  pub within : l ≤ r
-  pub place : start ≡ l * n
+pub record Counts (g : ℕ → Bool) (r count l : ℕ) : Type 0 where
   pub few : count ≤ l
   pub so_far_lem : count + total (flags_from g l (r - l)) ≡ total (flags_from g 0 r)
 
-pub counts_begin : (g : ℕ → Bool) (n r : ℕ) → Counts g n r 0 0 0
-counts_begin g n r = let all : r - 0 ≡ r = omega arith in
-    record { within = omega arith; place = sym (zero-mul n); few = omega arith; so_far_lem = rw all (zero-add _) }
+pub counts_begin : (g : ℕ → Bool) (r : ℕ) → Counts g r 0 0
+counts_begin g r = let all : r - 0 ≡ r = omega arith in record { few = omega arith; so_far_lem = rw all (zero-add _) }
 
-module _ {g : ℕ → Bool} {n r count start l : ℕ} (c : Counts g n r count start l) where
-  pub counts-again : {more : ℕ} → l < r → more ≡ count + flag (g l) → Counts g n r more (start + n) (l + 1)
+module _ {g : ℕ → Bool} {r count l : ℕ} (c : Counts g r count l) where
+  pub counts-again : {more : ℕ} → l < r → more ≡ count + flag (g l) → Counts g r more (l + 1)
   unfolding total flags_from
   counts-again {more} h e = let left : r - l ≡ suc (r - (l + 1)) = omega arith in record {
-    within = omega arith;
-    place = rw add-one (omega (arith, suc-mul l n, c.place));
     few = omega (arith, flag-most (g l), c.few);
     so_far_lem = rw (e, add_assoc, add-one) (rw (left, add-one) at c.so_far_lem);
   }

@@ -14,20 +14,20 @@ use lib.Seq.{get_or-take}
 use Rattle.refusal.specs.Refusal.{first}
 use Rattle.codes.specs.Code.{columns, rows, differs_at}
 use Rattle.mark.specs.Promises.{meaning}
-use Rattle.mark.proofs.Handed.{handed_done}
+use Rattle.mark.proofs.Handing.{handed_done}
 use Rattle.codes.proofs.Columns.{agree_exactly, agree_at}
 use Rattle.desk.specs.Desk.{desk_code, desk_description, array_of, with_array, placed, put_checks, Next, Puts, Made}
 use Rattle.desk.specs.declared.Desk.{Desk}
-use Rattle.desk.specs.declared.Put.{Put}
+use Rattle.mark.specs.declared.Handed.{Handed}
 use Rattle.desk.proofs.Columns.{column_there, column_other, cell, one_cell}
 use Rattle.desk.proofs.Sound.{puttable, sound}
 
-module _ (d : Desk) (i : ℕ) (s : List ℕ) (r : Put) (m : Made d) (e : 0 ≡ first (put_checks d i s)) (h : Puts d i s r) where
+module _ (d : Desk) (i : ℕ) (s : List ℕ) (r : Handed Desk) (m : Made d) (e : 0 ≡ first (put_checks d i s)) (h : Puts d i s r) where
   abbrev after : Desk
-  after = r.desk
+  after = r.next
 
   next : after ≡ with_array d (placed d i s).array after.above after.misfits
-  next = (handed_done (put_checks d i s) (Next d i s) d (meaning r.outcome, r.desk) h e).0
+  next = (handed_done (put_checks d i s) (Next d i s) d (meaning r.outcome, r.next) h e).0
 
   pub code_kept : desk_description after ≡ desk_description d
   code_kept = ap desk_description next

@@ -42,7 +42,7 @@ use Rattle.desk.specs.Desk.{Made, opened, put, with_array, Next}
 use Rattle.desk.specs.Working.{Puttable}
 use Rattle.desk.specs.declared.Desk.{Desk}
 use Rattle.mark.specs.Promises.{meaning}
-use Rattle.mark.proofs.Handed.{handed}
+use Rattle.mark.proofs.Handing.{handed}
 use Rattle.desk.proofs.Columns.{length-column, all_column, column_other, cell}
 
 abbrev pub ZeroFrom : ℕ → List ℕ → Type 0
@@ -247,9 +247,9 @@ sound_placed d i s t v h p =
     }
 
 pub sound : {d : Desk} → Made d → Sound d
-sound (opened D r h) = handed (open_checks D) (λ d. d ≡ zero_desk D) (zero_desk spare) (meaning r.outcome, r.desk) h
+sound (opened D r h) = handed (open_checks D) (λ d. d ≡ zero_desk D) (zero_desk spare) (meaning r.outcome, r.next) h
     (λ none e. subst Sound (sym e) (sound_zero D (passed D none)))
     (λ e. subst Sound (sym e) (sound_zero spare spare_passed))
-sound (put d i s r m h) = handed (put_checks d i s) (Next d i s) d (meaning r.outcome, r.desk) h
+sound (put d i s r m h) = handed (put_checks d i s) (Next d i s) d (meaning r.outcome, r.next) h
     (λ none e. subst Sound (sym e.0) (sound_placed d i s _ _ (sound m) (puttable d i s none)))
     (λ e. subst Sound (sym e) (sound m))

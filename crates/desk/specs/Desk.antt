@@ -20,8 +20,7 @@ use Rattle.codes.specs.Factors.{Description, plain, divided}
 use Rattle.codes.specs.Checks.{shape_checks, column_checks, wrong_length}
 use Rattle.mark.specs.Promises.{meaning, Hands}
 use Rattle.desk.specs.declared.Desk.{Desk}
-use Rattle.desk.specs.declared.Opened.{Opened}
-use Rattle.desk.specs.declared.Put.{Put}
+use Rattle.mark.specs.declared.Handed.{Handed}
 
 abbrev pub desk_code : Desk → Code
 desk_code d = code_of d.degree (take d.columns d.points) (take d.rows d.lengths)
@@ -55,8 +54,8 @@ abbrev pub open_checks : Description → List Check
 open_checks D = shape_checks 16 D.code ++ (5 when wrong_length (columns D.code) D.factors) ∷ column_checks D
 
 -- 'a refused opening hands over, beside its number, the zero desk of GF(4) with points 0 1 and k 1'
-abbrev pub Opens : Description → Opened → Type 0
-Opens D r = Hands (open_checks D) (λ d. d ≡ zero_desk D) (zero_desk spare) (meaning r.outcome, r.desk)
+abbrev pub Opens : Description → Handed Desk → Type 0
+Opens D r = Hands (open_checks D) (λ d. d ≡ zero_desk D) (zero_desk spare) (meaning r.outcome, r.next)
 
 -- 02, 2026-08: 'for every row, the coefficients of its interpolating polynomial from k_l upward'
 abbrev pub Above : (d n : ℕ) (xs : List ℕ) (k : ℕ) (ys t : List ℕ) → Type 0
@@ -97,10 +96,10 @@ abbrev pub Next : Desk → ℕ → List ℕ → Desk → Type 0
 Next d i s e = (e ≡ with_array d (placed d i s).array e.above e.misfits) × Known e
 
 -- 'A refused call leaves the desk as it was'
-abbrev pub Puts : Desk → ℕ → List ℕ → Put → Type 0
-Puts d i s r = Hands (put_checks d i s) (Next d i s) d (meaning r.outcome, r.desk)
+abbrev pub Puts : Desk → ℕ → List ℕ → Handed Desk → Type 0
+Puts d i s r = Hands (put_checks d i s) (Next d i s) d (meaning r.outcome, r.next)
 
 -- 'That a desk came from opening and putting is the one premise that a desk call may have.'
 pub data Made : Desk → Type 0 where
-  opened : (D : Description) (r : Opened) → Opens D r → Made r.desk
-  put : (d : Desk) (i : ℕ) (s : List ℕ) (r : Put) → Made d → Puts d i s r → Made r.desk
+  opened : (D : Description) (r : Handed Desk) → Opens D r → Made r.next
+  put : (d : Desk) (i : ℕ) (s : List ℕ) (r : Handed Desk) → Made d → Puts d i s r → Made r.next

@@ -4,16 +4,14 @@
 --   Placeable d i              the column i is one of the desk d, and the desk's cells are inside its array
 --   Renewing d i s             the desk d came from opening and putting, and s can be put into the column i
 --   Renewed d i s e            e is d with other coefficients and another number, and knows them once s is in the column i
---   Basing d t xs i            points xs of a desk, one of them the column i's; t is the field's table
+--   Basing d xs i              points xs of a desk, one of them the column i's
 --   Basis d xs i b             b begins with the polynomial of as many coefficients as points that is 1 at the column i's and else 0
 --   change d n i f a s l       by how much the row l of a changes, divided by the factor f, when s is put into the column i
---   Raising d t ks b i f a s u    what raising the coefficients u of rows of lengths ks asks for
+--   Raising d ks b i f a s u   what raising the coefficients u of rows of lengths ks asks for
 --   Raised d ks b δ r u u'     u' is u with δ times b added, from the row's length on, in each of the first r rows
-use Rattle.std.specs.Prelude.{◌≡◌, false, List, ℕ, ◌+◌, ◌*◌, ◌≤◌, ◌<◌, length, get_or, set, take, replicate}
-use Rattle.refusal.specs.Refusal.{bad_degree}
+use Rattle.std.specs.Prelude.{◌≡◌, List, ℕ, ◌+◌, ◌*◌, ◌≤◌, ◌<◌, length, get_or, set, take, replicate}
 use Rattle.field.specs.Symbols.{IsSymbol, plus, times, over}
 use Rattle.field.specs.Arithmetic.{gf}
-use Rattle.field.specs.Working.Tables.{IsTable}
 use Rattle.poly.specs.Poly.{All, Poly, values_at}
 use Rattle.rows.specs.Working.Rows.{Points}
 use Rattle.codes.proofs.Proper.{Within}
@@ -39,9 +37,7 @@ pub record Renewed (d : Desk) (i : ℕ) (s : List ℕ) (e : Desk) : Type 0 where
   pub others : e ≡ with_array d d.array e.above e.misfits
   pub known : Known (placed e i s)
 
-pub record Basing (d : ℕ) (t xs : List ℕ) (i : ℕ) : Type 0 where
-  pub degree : bad_degree d ≡ false
-  pub table : IsTable d t
+pub record Basing (d : ℕ) (xs : List ℕ) (i : ℕ) : Type 0 where
   pub points : Points d xs
   pub few : length xs ≤ 16
   pub column : i < length xs
@@ -53,9 +49,7 @@ pub record Basis (d : ℕ) (xs : List ℕ) (i : ℕ) (b : List ℕ) : Type 0 whe
 abbrev pub change : (d n i f : ℕ) (a s : List ℕ) → ℕ → ℕ
 change d n i f a s l = over d (plus (get_or s l 0) (get_or a (l * n + i) 0)) f
 
-pub record Raising (d : ℕ) (t ks b : List ℕ) (i f : ℕ) (a s u : List ℕ) : Type 0 where
-  pub degree : bad_degree d ≡ false
-  pub table : IsTable d t
+pub record Raising (d : ℕ) (ks b : List ℕ) (i f : ℕ) (a s u : List ℕ) : Type 0 where
   pub lengths : Within 1 (length b) ks
   pub column : i < length b
   pub factor : Factor d f

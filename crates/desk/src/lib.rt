@@ -10,8 +10,8 @@ ghost use Rattle.desk.specs.Desk.{Made, Opens, Puts, placed, zero_desk};
 ghost use Rattle.desk.specs.Verdict.{Judges};
 ghost use Rattle.desk.specs.Working.{Placeable, Renewing, Renewed};
 
-use field::tables;
-use mark::Outcome;
+use field::Field;
+use mark::Handed;
 
 // A code, a factor for each of its columns, and an array, row after row. Laid out as the array, `above` has of each row, its symbols
 // divided by their columns' factors, the coefficients of the interpolating polynomial from the row's length on, and zeros before
@@ -27,20 +27,6 @@ pub struct Desk {
     pub array: [u8; 64],
     pub above: [u8; 64],
     pub misfits: usize,
-}
-
-// What opening hands over.
-#[derive(Clone, Copy)]
-pub struct Opened {
-    pub outcome: Outcome,
-    pub desk: Desk,
-}
-
-// What putting a column hands back.
-#[derive(Clone, Copy)]
-pub struct Put {
-    pub outcome: Outcome,
-    pub desk: Desk,
 }
 
 // What the verdict hands back.
@@ -67,41 +53,33 @@ impl Desk {
         let array = [0u8; 64];
         let above = [0u8; 64];
         Desk {
-            degree: degree,
+            degree,
             columns: points.len(),
             rows: lengths.len(),
             points: xs,
             factors: fs,
             lengths: ks,
-            array: array,
-            above: above,
+            array,
+            above,
             misfits: 0,
         }
     }
 
     // Opens a desk; refusals 1, 2, 3, 4, 18, 5, 6, 23. A refused opening hands over the zero desk of GF(4) with points 0 1, factors 1 1
     // and k 1.
-    pub fn open(degree: u32, points: &[u8], factors: &[u8], lengths: &[u8]) -> Opened
+    pub fn open(degree: u32, points: &[u8], factors: &[u8], lengths: &[u8]) -> Handed<Self>
         ensures opens { Opens (description_of degree points.now factors.now lengths.now) result }
-        ensures made { Made result.desk }
+        ensures made { Made result.next }
     {
-        let k = checks::open_refusal(degree, points, factors, lengths);
-        if k != 0 {
-            let xs = [0u8, 1u8];
-            let fs = [1u8, 1u8];
-            let ks = [1u8];
-            let refused = Outcome::Refused(k);
-            let spare = Desk::zero(2, &xs, &fs, &ks);
-            return Opened {
-                outcome: refused,
-                desk: spare,
+        if let Err(refused) = checks::open_refusal(degree, points, factors, lengths) {
+            return Handed {
+                outcome: Err(refused),
+                next: Desk::zero(2, &[0, 1], &[1, 1], &[1]),
             };
         }
-        let opened = Outcome::Done;
-        let desk = Desk::zero(degree, points, factors, lengths);
-        Opened {
-            outcome: opened,
-            desk: desk,
+        Handed {
+            outcome: Ok(()),
+            next: Desk::zero(degree, points, factors, lengths),
         }
     }
 
@@ -110,7 +88,6 @@ impl Desk {
         requires { Renewing self column (take self.rows symbols) }
         ensures { Renewed self column (take self.rows symbols) result }
     {
-        let degree = self.degree;
         let n = self.columns;
         let r = self.rows;
         let points = self.points;
@@ -118,11 +95,10 @@ impl Desk {
         let lengths = self.lengths;
         let array = self.array;
         let mut above = self.above;
-        let table = tables::lend(degree);
-        let basis = above::basis(&table, degree, &points[..n], column);
+        let field = Field::new(self.degree);
+        let basis = above::basis(&field, &points[..n], column);
         above::raise(
-            &table,
-            degree,
+            &field,
             &lengths[..r],
             &basis[..n],
             column,
@@ -142,40 +118,32 @@ impl Desk {
         ensures { result ≡ placed self column (take self.rows symbols) }
     {
         let n = self.columns;
-        let rows = self.rows;
-        let mut start = 0;
-        let mut l = 0;
-        while l < rows {
-            self.array[start + column] = symbols[l];
-            start += n;
-            l += 1;
+        for (l, symbol) in symbols[..self.rows].iter().enumerate() {
+            self.array[l * n + column] = *symbol;
         }
         self
     }
 
     // Puts the symbols, one a row, into a column, changes nothing else of the array, and keeps the coefficients and the number of
     // misfits true; refusals 14, 5, 7. A refused put hands the desk back as it was.
-    pub fn put(mut self, column: usize, symbols: &[u8]) -> Put
+    pub fn put(mut self, column: usize, symbols: &[u8]) -> Handed<Self>
         requires { Made self }
         ensures puts { Puts self column symbols.now result }
-        ensures made { Made result.desk }
+        ensures made { Made result.next }
     {
-        let k = checks::put_refusal(self, column, symbols);
-        if k != 0 {
-            let refused = Outcome::Refused(k);
-            return Put {
-                outcome: refused,
-                desk: self,
+        if let Err(refused) = checks::put_refusal(self, column, symbols) {
+            return Handed {
+                outcome: Err(refused),
+                next: self,
             };
         }
         let mut four = [0u8; 4];
         rows::store(symbols, &mut four, 0);
         self = self.renew(column, four);
         self = self.place(column, four);
-        let replaced = Outcome::Done;
-        Put {
-            outcome: replaced,
-            desk: self,
+        Handed {
+            outcome: Ok(()),
+            next: self,
         }
     }
 
@@ -188,7 +156,7 @@ impl Desk {
     {
         let verdict = self.misfits;
         Judged {
-            verdict: verdict,
+            verdict,
             desk: self,
         }
     }

@@ -12,75 +12,58 @@
 // writes is held to the answers of another program (tests/second).
 #![tactic(auto)]
 
-ghost use Rattle.std.specs.Prelude.{◌≡◌, ◌≤◌, length, IfOk};
+ghost use Rattle.std.specs.Prelude.{IfOk};
 ghost use Rattle.desk.specs.Desk.{Made};
 
 use desk::Desk;
-use mark::Outcome;
-use reading::read_full;
+use mark::Handed;
+use reading::read_frame;
 use std::io;
 use std::io::Write;
 
 // Writes the line of a call, and hands the desk back.
-fn show(out: &mut impl Write, outcome: Outcome, desk: Desk) -> io::Result<Desk>
-    requires { Made desk }
+fn show(out: &mut impl Write, handed: Handed<Desk>) -> io::Result<Desk>
+    requires { Made handed.next }
     ensures { IfOk result (λ d. Made d) }
 {
-    match outcome {
-        Outcome::Done => write!(out, "done")?,
-        Outcome::Refused(k) => write!(out, "!{k}")?,
+    match handed.outcome {
+        Ok(()) => write!(out, "done")?,
+        Err(refused) => write!(out, "!{}", refused.number())?,
     }
-    let judged = desk.verdict();
-    let verdict = judged.verdict;
-    writeln!(out, " {verdict}")?;
+    let judged = handed.next.verdict();
+    writeln!(out, " {}", judged.verdict)?;
     Ok(judged.desk)
 }
 
-// A number of two bytes.
-fn number(low: u8, high: u8) -> u32 {
-    low as u32 + high as u32 * 256
-}
-
-// A count, or the most that there is room for.
-fn count(n: u8, most: usize) -> usize
-    ensures { result ≤ most }
+// Makes the call of a frame.
+fn step(desk: Desk, frame: &[u8; 53]) -> Handed<Desk>
+    requires { Made desk }
+    ensures { Made result.next }
 {
-    let n = n as usize;
-    if most < n { most } else { n }
-}
-
-// Makes the call of a frame, and hands the next desk back.
-fn step(out: &mut impl Write, desk: Desk, frame: &[u8]) -> io::Result<Desk>
-    requires made { Made desk }
-    requires frame_len { length frame.now ≡ 53 }
-    ensures { IfOk result (λ d. Made d) }
-{
-    let x = number(frame[1], frame[2]);
-    let n = count(frame[3], 20);
-    let k = count(frame[4], 7);
-    let f = count(frame[32], 20);
-    if frame[0] == 0 {
-        let opened = Desk::open(x, &frame[5..5 + n], &frame[33..33 + f], &frame[25..25 + k]);
-        return show(out, opened.outcome, opened.desk);
+    let x = u16::from_le_bytes([frame[1], frame[2]]);
+    let n = usize::from(frame[3].min(20));
+    if frame[0] != 0 {
+        return desk.put(usize::from(x), &frame[5..5 + n]);
     }
-    let put = desk.put(x as usize, &frame[5..5 + n]);
-    show(out, put.outcome, put.desk)
+    let k = usize::from(frame[4].min(7));
+    let f = usize::from(frame[32].min(20));
+    Desk::open(
+        u32::from(x),
+        &frame[5..5 + n],
+        &frame[33..33 + f],
+        &frame[25..25 + k],
+    )
 }
 
 fn main(rt: HostRuntime) -> io::Result<()> {
     let mut input = rt.stdin();
     let mut out = rt.stdout();
-    let xs = [0u8];
-    let fs = [1u8];
-    let ks = [1u8];
-    let opened = Desk::open(2, &xs, &fs, &ks);
-    let mut desk = opened.desk;
+    let mut desk = Desk::open(2, &[0], &[1], &[1]).next;
     for _ in 0..u64::MAX {
-        let mut frame = [0u8; 53];
-        if read_full(&mut input, &mut frame)? < 53 {
+        let Some(frame) = read_frame(&mut input)? else {
             break;
-        }
-        desk = step(&mut out, desk, &frame)?;
+        };
+        desk = show(&mut out, step(desk, &frame))?;
     }
     Ok(())
 }

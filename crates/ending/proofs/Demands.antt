@@ -29,7 +29,7 @@ use Rattle.ending.proofs.WrongColumns.{code_divides, code_locator, vanishes_wron
 use Rattle.ending.proofs.Exclusive.{exclusive}
 
 is_corrected : (e : Ending) → number_of (meaning e) ≡ 1 → (w : ℕ) × (e ≡ Corrected w)
-is_corrected (Refused k) h = absurd (omega arith)
+is_corrected (Refused r) h = absurd (omega arith)
 is_corrected (Corrected w) h = (w, refl)
 is_corrected Nothing h = absurd (omega arith)
 is_corrected (Several t) h = absurd (omega arith)

@@ -62,23 +62,23 @@ module _ {c : Code} (p : Proper c) {y : List ℕ} where
 
       pub exclusive : (e e' : Ending) (lent lent' left left' : Buffers) → Ends c y τ lent e left → Ends c y τ lent' e' left'
           → number_of (meaning e) ≡ number_of (meaning e')
-      exclusive (Refused k) e' i j l l' h g = absurd h
-      exclusive (Corrected w) (Refused k) i j l l' h g = absurd g
+      exclusive (Refused r) e' i j l l' h g = absurd h
+      exclusive (Corrected w) (Refused r) i j l l' h g = absurd g
       exclusive (Corrected w) (Corrected w') i j l l' h g = refl
       exclusive (Corrected w) Nothing i j l l' h g = absurd (not_none h.least g.0)
       exclusive (Corrected w) (Several t) i j l l' h g = absurd (not_several h g.0 g.1)
       exclusive (Corrected w) (Hollow t) i j l l' h g = absurd (not_hollow h g.0 g.1)
-      exclusive Nothing (Refused k) i j l l' h g = absurd g
+      exclusive Nothing (Refused r) i j l l' h g = absurd g
       exclusive Nothing (Corrected w) i j l l' h g = absurd (not_none g.least h.0)
       exclusive Nothing Nothing i j l l' h g = refl
       exclusive Nothing (Several t) i j l l' h g = absurd (not_none g.0 h.0)
       exclusive Nothing (Hollow t) i j l l' h g = absurd (not_none g.0 h.0)
-      exclusive (Several t) (Refused k) i j l l' h g = absurd g
+      exclusive (Several t) (Refused r) i j l l' h g = absurd g
       exclusive (Several t) (Corrected w) i j l l' h g = absurd (not_several g h.0 h.1)
       exclusive (Several t) Nothing i j l l' h g = absurd (not_none h.0 g.0)
       exclusive (Several t) (Several t') i j l l' h g = refl
       exclusive (Several t) (Hollow t') i j l l' h g = absurd (not_both h.0 h.1 g.0 g.1)
-      exclusive (Hollow t) (Refused k) i j l l' h g = absurd g
+      exclusive (Hollow t) (Refused r) i j l l' h g = absurd g
       exclusive (Hollow t) (Corrected w) i j l l' h g = absurd (not_hollow g h.0 h.1)
       exclusive (Hollow t) Nothing i j l l' h g = absurd (not_none h.0 g.0)
       exclusive (Hollow t) (Several t') i j l l' h g = absurd (not_both g.0 g.1 h.0 h.1)

@@ -272,7 +272,7 @@ module _ {c : Code} (p : Proper c) where
 
     pub others_shift : {y : List ℕ} → IsArray c y → (τ : ℕ) (lent : Buffers) (e : Ending) (left : Buffers)
         → ¬ (number_of (meaning e) ≡ 1) → Ends c y τ lent e left → Ends c (y ⊞ a) τ lent e left
-    others_shift i τ lent (Refused k) left n d = d
+    others_shift i τ lent (Refused r) left n d = d
     others_shift i τ lent (Corrected w) left n d = absurd (n refl)
     others_shift i τ lent Nothing left n (none, kept) = (λ t E k l. none t E k (unshift i l), kept)
     others_shift i τ lent (Several t) left n (l, two, kept) = (
@@ -313,7 +313,7 @@ corrects_raise h k = (
 
 pub ends_raise : (c : Code) (y : List ℕ) (τ τ' : ℕ) (lent : Buffers) (e : Ending) (left : Buffers) → τ ≤ τ' → ¬ (e ≡ Nothing)
     → Ends c y τ lent e left → Ends c y τ' lent e left
-ends_raise c y τ τ' lent (Refused k) left h n d = d
+ends_raise c y τ τ' lent (Refused r) left h n d = d
 ends_raise c y τ τ' lent (Corrected w) left h n d = (corrects_raise h d).0
 ends_raise c y τ τ' lent Nothing left h n d = absurd (n refl)
 ends_raise c y τ τ' lent (Several t) left h n (l, two, kept) = (least_raise h l, two, kept)

@@ -10,6 +10,8 @@ use Prim.Native.Nat.{ℕ, zero, suc, ◌≤◌}
 use native.Mathlib.Decide.{ℕ_discrete}
 use native.Mathlib.Omega.{arith}
 use Rattle.refusal.specs.Meaning.{number_of, detail_of}
+use Rattle.refusal.specs.Numbers.{named}
+use Rattle.refusal.proofs.Numbers.{named-number}
 use Rattle.codes.specs.Code.{Code, CodeArray, IsArray, flags_of, wrong_count, joint_limit}
 use Rattle.codes.specs.Near.{Nearest}
 use Rattle.codes.proofs.Proper.{Proper}
@@ -21,14 +23,14 @@ use Rattle.ending.proofs.Demands.{corrected_means}
 
 -- the ending of a number and a detail
 abbrev ending : (number detail : ℕ) → Ending
-ending zero d = Refused d
+ending zero d = Refused (named d)
 ending (suc zero) d = Corrected d
 ending (suc (suc zero)) d = Nothing
 ending (suc (suc (suc zero))) d = Several d
 ending (suc (suc (suc (suc n)))) d = Hollow d
 
 ending_meant : (e : Ending) → ending (number_of (meaning e)) (detail_of (meaning e)) ≡ e
-ending_meant (Refused k) = refl
+ending_meant (Refused r) = ap Refused (named-number r)
 ending_meant (Corrected w) = refl
 ending_meant Nothing = refl
 ending_meant (Several t) = refl
@@ -68,23 +70,23 @@ module _ {c : Code} (p : Proper c) {y : List ℕ} (received : IsArray c y) (τ :
   same : (e e' : Ending) (lent left left' : Buffers) → number_of (meaning e) ≡ number_of (meaning e') → Ends c y τ lent e left
       → Ends c y τ lent e' left'
       → (e ≡ e') × (left ≡ left')
-  same (Refused k) e' lent left left' q h g = absurd h
-  same (Corrected w) (Refused k) lent left left' q h g = absurd g
+  same (Refused r) e' lent left left' q h g = absurd h
+  same (Corrected w) (Refused r) lent left left' q h g = absurd g
   same (Corrected w) (Corrected w') lent left left' q h g = corrected_same lent left left' h g
   same (Corrected w) Nothing lent left left' q h g = absurd (omega arith)
   same (Corrected w) (Several t) lent left left' q h g = absurd (omega arith)
   same (Corrected w) (Hollow t) lent left left' q h g = absurd (omega arith)
-  same Nothing (Refused k) lent left left' q h g = absurd g
+  same Nothing (Refused r) lent left left' q h g = absurd g
   same Nothing (Corrected w) lent left left' q h g = absurd (omega arith)
   same Nothing Nothing lent left left' q h g = (refl, h.1 ∙ sym g.1)
   same Nothing (Several t) lent left left' q h g = absurd (omega arith)
   same Nothing (Hollow t) lent left left' q h g = absurd (omega arith)
-  same (Several t) (Refused k) lent left left' q h g = absurd g
+  same (Several t) (Refused r) lent left left' q h g = absurd g
   same (Several t) (Corrected w) lent left left' q h g = absurd (omega arith)
   same (Several t) Nothing lent left left' q h g = absurd (omega arith)
   same (Several t) (Several t') lent left left' q h g = (ap Several (least_same h.0 g.0), h.2 ∙ sym g.2)
   same (Several t) (Hollow t') lent left left' q h g = absurd (omega arith)
-  same (Hollow t) (Refused k) lent left left' q h g = absurd g
+  same (Hollow t) (Refused r) lent left left' q h g = absurd g
   same (Hollow t) (Corrected w) lent left left' q h g = absurd (omega arith)
   same (Hollow t) Nothing lent left left' q h g = absurd (omega arith)
   same (Hollow t) (Several t') lent left left' q h g = absurd (omega arith)

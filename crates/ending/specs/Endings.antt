@@ -6,14 +6,15 @@
 --   Ends c y τ lent e left        the decoding of y, not refused, ends as e and turns the buffers lent into left
 use Rattle.std.specs.Prelude.{◌≡◌, Bool, cond, List, [], ◌∷◌, ℕ, ◌≤◌, eqb}
 use Rattle.refusal.specs.Meaning.{Meaning, refusal, number_of, detail_of}
+use Rattle.refusal.specs.Numbers.{number}
 use Rattle.codes.specs.Code.{Code, IsMessage, encoded, flags_of, wrong_count}
 use Rattle.ending.specs.Locators.{Locator, Multiple, Least, OnlyOne, Divides}
 use Rattle.ending.specs.declared.Ending.{Ending}
 use Rattle.ending.specs.declared.Ending.TheVariants.{Refused, Corrected, Nothing, Several, Hollow}
 
--- 'ending | code', and its 'detail': its number; number of wrong columns; none; t; t
+-- 'ending | code', and its 'detail': its number, that of the reason; number of wrong columns; none; t; t
 abbrev pub meaning : Ending → Meaning
-meaning (Refused k) = refusal k
+meaning (Refused r) = refusal (number r)
 meaning (Corrected w) = (1, w ∷ [])
 meaning Nothing = (2, [])
 meaning (Several t) = (3, t ∷ [])

@@ -4,14 +4,15 @@
 --   by_inverses           to multiply by the inverses is to divide
 --   Done d fs r s₀ s at left    r rows at the front of s₀, of which all but those from place at on are multiplied in s; left are not
 --   first_rows, next_row, last_rows    before the first row; a row; all rows
+--   row_fits, row_symbols    the row that comes next is in the list, and is of symbols
 --   striking              what an array and factors whose checks passed are
 --   ones_multiply, ones_divide    factors of one change nothing
 --   multiplying, multiplied_front    the rows of an array at the front of a list can be multiplied by symbols, and then are there
 --   part_all              a list is at its front
 -- Assumes nothing.
-use mathlib.Core.Path.{◌≡◌, refl, sym, ap, ap₂, ◌∙◌}
+use mathlib.Core.Path.{◌≡◌, refl, sym, ap, ap₂, subst, ◌∙◌}
 use mathlib.Core.List.{List, [], ◌∷◌, ◌++◌}
-use Prim.Native.Nat.{ℕ, zero, suc, ◌+◌, ◌*◌, ◌≤◌, ◌<◌}
+use Prim.Native.Nat.{ℕ, zero, suc, ◌+◌, ◌-◌, ◌*◌, ◌≤◌, ◌<◌}
 use native.Mathlib.Nat.{suc-mul}
 use native.Mathlib.Omega.{arith}
 use lib.ListN.{length, get_or, take, drop, replicate, length-drop, length-append}
@@ -20,7 +21,6 @@ use Rattle.patch.specs.Parts.{part, lay}
 use Rattle.patch.proofs.Parts.{length_part, get_d_part, get_or-lay_above, length-lay, lay_none, patch_is_lay, lay_behind, take-lay}
 use Rattle.field.specs.Symbols.{IsSymbol, times, over}
 use Rattle.field.specs.Arithmetic.{gf}
-use Rattle.field.specs.Working.Tables.{IsTable}
 use Rattle.field.proofs.Laws.{Field}
 use Rattle.field.proofs.Instance.{field}
 use Rattle.field.proofs.Sums.{plus-zero}
@@ -141,27 +141,44 @@ module _ (d : ℕ) (fs : List ℕ) where
   pub first_rows : {r : ℕ} {s : List ℕ} → SymbolsAt d s 0 (r * n) → Done r s s 0 r
   first_rows h = record { place = omega arith; same = refl; symbols = h; so_far_lem = refl }
 
-  module _ {r at : ℕ} {s₀ s s' : List ℕ} (k : ℕ) (h : Done r s₀ s at (suc k)) (room : r * n ≤ length s₀)
-      (is : s' ≡ multiplied_at d fs 0 s at 0) where
-    fits : at + suc k * n ≤ length s
-    fits = omega (arith, h.place, h.same)
+  -- where a row is left
+  module _ {r at left : ℕ} {s₀ s : List ℕ} (h : Done r s₀ s at left) (room : r * n ≤ length s₀) (some : 0 < left) where
+    abbrev more : ℕ
+    more = left - 1
 
-    pub next_row : Done r s₀ s' (at + n) k
-    next_row = record {
-      place = omega (arith, h.place, suc-mul k n);
-      same = same at k s fits is ∙ h.same;
-      symbols = λ j q. rw (ap (λ (l : List ℕ). get_or l (at + n + j) 0) (laid at k s fits is)
-          ∙ get_or-lay_above at (row at k s fits is) s (at + n + j) (omega (arith, row_count at k s fits is)))
-          (rw (sum j) (h.symbols (n + j) (omega (arith, suc-mul k n))));
-      so_far_lem = row_done at k s fits is ∙ h.so_far_lem;
-    }
-      where
-        sum : (j : ℕ) → at + n + j ≡ at + (n + j)
-        sum j = omega arith
+    undone : Done r s₀ s at (suc more)
+    undone = subst (Done r s₀ s at) (omega arith) h
 
-  pub last_rows : {r at : ℕ} {s₀ s : List ℕ} → Done r s₀ s at 0 → s ≡ lay 0 (with_factors (times d) fs r (part 0 (r * n) s₀)) s₀
+    pub row_fits : at + n ≤ length s
+    row_fits = omega (arith, undone.place, undone.same, suc-mul more n)
+
+    pub row_symbols : SymbolsAt d s at n
+    row_symbols j q = undone.symbols j (omega (arith, suc-mul more n))
+
+    module _ {s' : List ℕ} (is : s' ≡ multiplied_at d fs 0 s at 0) where
+      fits : at + suc more * n ≤ length s
+      fits = omega (arith, undone.place, undone.same)
+
+      one_less : Done r s₀ s' (at + n) more
+      one_less = record {
+        place = omega (arith, undone.place, suc-mul more n);
+        same = same at more s fits is ∙ h.same;
+        symbols = λ j q. rw (ap (λ (l : List ℕ). get_or l (at + n + j) 0) (laid at more s fits is)
+            ∙ get_or-lay_above at (row at more s fits is) s (at + n + j) (omega (arith, row_count at more s fits is)))
+            (rw (sum j) (undone.symbols (n + j) (omega (arith, suc-mul more n))));
+        so_far_lem = row_done at more s fits is ∙ undone.so_far_lem;
+      }
+        where
+          sum : (j : ℕ) → at + n + j ≡ at + (n + j)
+          sum j = omega arith
+
+      pub next_row : {left' : ℕ} → left' + 1 ≡ left → Done r s₀ s' (at + n) left'
+      next_row e = subst (Done r s₀ s' (at + n)) (omega arith) one_less
+
+  pub last_rows : {r at left : ℕ} {s₀ s : List ℕ} → Done r s₀ s at left → left ≡ 0
+      → s ≡ lay 0 (with_factors (times d) fs r (part 0 (r * n) s₀)) s₀
   unfolding with_factors
-  last_rows {at = at} {s = s} h = sym (lay_none at s) ∙ h.so_far_lem
+  last_rows {at = at} {s = s} h e = sym (lay_none at s) ∙ (rw e at h).so_far_lem
 
 -- what the checks leave of an array and its factors
 pub striking : {D : Description} {a : List ℕ} → Counts D.code → Factors D → IsArray D.code a
@@ -198,9 +215,8 @@ module _ {d r : ℕ} {fs a : List ℕ} (h : Striking d fs r a) (gs s : List ℕ)
   cells : r * length gs ≡ length a
   cells = ap (λ (n : ℕ). r * n) same ∙ sym h.count
 
-  pub multiplying : {t : List ℕ} → IsTable d t → All (IsSymbol d) gs → Multiplying d t gs r s
-  multiplying table symbols = record {
-    lent = record { degree = h.degree; table = table };
+  pub multiplying : All (IsSymbol d) gs → Multiplying d gs r s
+  multiplying symbols = record {
     factors = symbols;
     room = omega (arith, cells, room);
     symbols = λ k q. rw (← get_d_part 0 (length a) s k (omega (arith, cells)), front)

@@ -8,35 +8,29 @@ ghost use Rattle.codes.specs.Factors.{with_factors};
 ghost use Rattle.factors.specs.Working.{Inverting, Multiplying, Striking, inverses};
 
 use array_checks::all_ones;
-use field::tables;
-use field::tables::Table;
+use field::Field;
 
 // The inverses of the factors, at the front of w.
-fn inverses(table: &Table, degree: u32, factors: &[u8], w: &mut [u8])
-    requires { Inverting degree table.now factors.now w.old }
-    ensures { w.new ≡ lay 0 (inverses degree factors.now) w.old }
+fn inverses(field: &Field, factors: &[u8], w: &mut [u8])
+    requires { Inverting field.now.degree factors.now w.old }
+    ensures { w.new ≡ lay 0 (inverses field.now.degree factors.now) w.old }
 {
-    let mut i = 0;
-    while i < factors.len() {
-        w[i] = tables::quotient_from(table, degree, 1, factors[i]);
-        i += 1;
+    for (i, f) in factors.iter().enumerate() {
+        w[i] = field.quotient(1, *f);
     }
 }
 
 // Multiplies r rows at the front of s by the factors, one a column.
-fn multiply_rows(table: &Table, degree: u32, factors: &[u8], r: usize, s: &mut [u8])
-    requires { Multiplying degree table.now factors.now r s.old }
+fn multiply_rows(field: &Field, factors: &[u8], r: usize, s: &mut [u8])
+    requires { Multiplying field.now.degree factors.now r s.old }
     ensures { s.new
-        ≡ lay 0 (with_factors (times degree) factors.now r (part 0 (r * length factors.now) s.old))
+        ≡ lay 0 (with_factors (times field.now.degree) factors.now r (part 0 (r * length factors.now) s.old))
         s.old }
 {
-    let n = factors.len();
     let mut at = 0;
-    let mut left = r;
-    while 0 < left {
-        lists::multiply(table, degree, factors, 0, s, at, 0);
-        at += n;
-        left -= 1;
+    for _ in 0..r {
+        lists::multiply(field, factors, 0, s, at, 0);
+        at += factors.len();
     }
 }
 
@@ -48,8 +42,8 @@ pub fn multiply(degree: u32, factors: &[u8], r: usize, array: &mut [u8])
     if all_ones(factors) {
         return;
     }
-    let table = tables::lend(degree);
-    multiply_rows(&table, degree, factors, r, array);
+    let field = Field::new(degree);
+    multiply_rows(&field, factors, r, array);
 }
 
 // For the crates above: the array, of r rows, divided by the factors, one a column, at the front of s.
@@ -63,8 +57,8 @@ pub fn divide(degree: u32, factors: &[u8], r: usize, array: &[u8], s: &mut [u8])
     if all_ones(factors) {
         return;
     }
-    let table = tables::lend(degree);
+    let field = Field::new(degree);
     let mut w = [0u8; 96];
-    inverses(&table, degree, factors, &mut w);
-    multiply_rows(&table, degree, &w[..factors.len()], r, s);
+    inverses(&field, factors, &mut w);
+    multiply_rows(&field, &w[..factors.len()], r, s);
 }

@@ -6,7 +6,7 @@
 --   half_below         half of a number has a bit less
 --   low_zero, low_step no bit; one bit more; low_bit, so in a loop from the highest bit on
 --   low_times          the product over as many bits as symbols have, or more
---   half_size          half of the field; size_half, the field is twice its half
+--   size_half          the field is twice its half
 --   times_x_below, bit_below    x times a symbol is one, and a bit times a symbol
 --   doubled_small, doubled_large    x times a symbol, in a byte, by whether its top bit is set
 -- Assumes nothing.
@@ -14,7 +14,7 @@ use mathlib.Core.Path.{◌≡◌, refl, sym, ap, ap₂, ◌∙◌}
 use mathlib.Core.Bool.{false}
 use mathlib.Core.Logic.{⊎_elim}
 use Prim.Native.Nat.{ℕ, zero, suc, ◌-◌, ◌*◌, ◌/◌, ◌%◌, ◌^◌, ◌≤◌, ◌<◌}
-use native.Mathlib.Nat.{mod-eq_of_lt, div-eq_of_lt, div-eq_of_lt-le, mul-div_cancel, lt_of_lt_of_le, one-mul, zero-mul, mul_comm, pow-suc}
+use native.Mathlib.Nat.{mod-eq_of_lt, div-eq_of_lt, div-eq_of_lt-le, lt_of_lt_of_le, one-mul, zero-mul, mul_comm, pow-suc}
 use native.Mathlib.Numerals.{add-one}
 use native.Mathlib.Omega.{arith}
 use lib.Arith.{lt-one}
@@ -80,12 +80,9 @@ pub low_times : (d n a b : ℕ) → d ≤ n → a < 2 ^ d → b < 2 ^ d → time
 unfolding times
 low_times d n a b h ha hb = low_more d d n a b h ha ∙ ap (times_low d d a) (sym (mod-eq_of_lt hb))
 
--- half of the field
+-- the field and its half
 pub size_half : (d : ℕ) → 0 < d → 2 ^ d ≡ 2 ^ (d - 1) * 2
 size_half d pos = ap (λ (x : ℕ). 2 ^ x) (let e : d ≡ suc (d - 1) = omega arith in e) ∙ pow-suc 2 (d - 1)
-
-pub half_size : (d : ℕ) → 0 < d → 2 ^ d / 2 ≡ 2 ^ (d - 1)
-half_size d pos = ap (λ (x : ℕ). x / 2) (size_half d pos) ∙ mul-div_cancel (2 ^ (d - 1)) (let two : 0 < 2 = omega arith in two)
 
 module _ (d : ℕ) (𝓣 : Tested d) where
   pub times_x_below : (v : ℕ) → v < 2 ^ d → times_x d v < 2 ^ d

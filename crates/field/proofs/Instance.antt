@@ -4,11 +4,12 @@
 --   generated d    the tests of a degree that is not bad
 --   tested d       those of them that the product needs
 --   field d        the laws of the field of such a degree
+--   doubled_below  x times a symbol is a symbol
 -- Assumes nothing.
 use mathlib.Core.Path.{◌≡◌}
 use mathlib.Core.Logic.{◌⊎◌, inl, inr}
 use mathlib.Core.Bool.{false}
-use Prim.Native.Nat.{ℕ, ◌^◌}
+use Prim.Native.Nat.{ℕ, ◌^◌, ◌<◌}
 use native.Mathlib.Decide.{ℕ_discrete}
 use native.Mathlib.Omega.{arith}
 use lib.Dec.{ltb→lt}
@@ -22,6 +23,7 @@ use Rattle.field.specs.Arithmetic.{gf}
 use Rattle.field.proofs.Laws.{Field}
 use Rattle.field.proofs.Sums.{plus_comm, plus_assoc, zero_plus, plus_self, plus_below}
 use Rattle.field.proofs.Products.{Tested, times_plus, times_comm, times_assoc, times_below, one_times}
+use Rattle.field.proofs.BitByBit.{times_x_below}
 use Rattle.field.proofs.Powers.{powers, place_of, Generated, over_times, over_below}
 
 tested_2 : Tested 2
@@ -81,3 +83,6 @@ field_of d 𝓖 = record {
 
 pub field : (d : ℕ) → bad_degree d ≡ false → Field (gf d)
 field d h = field_of d (generated d h)
+
+pub doubled_below : (d v : ℕ) → bad_degree d ≡ false → v < 2 ^ d → times_x d v < 2 ^ d
+doubled_below d v good h = times_x_below d (tested d good) v h

@@ -4,6 +4,7 @@
 --   unique           no two answers keep it
 --   refuses, gives   how it is kept: with the first refusal's number, or with the symbol where there is none
 --   Operands d a b   what is known where no check applies; operands, that it is
+--   nonzero          no check of the quotient lets a zero divisor pass
 --   quotient_exists, quotient_unique    where no check of the quotient applies, there is one symbol c with c·b = a, and one alone
 -- Assumes nothing.
 use mathlib.Core.Path.{◌≡◌, refl, sym, ap, ◌∙◌}
@@ -17,28 +18,31 @@ use Rattle.refusal.specs.Meaning.{refusal, number_of, detail_of}
 use Rattle.refusal.proofs.Laws.{inside}
 use Rattle.refusal.proofs.Keeping as keeping
 use Rattle.refusal.proofs.Ladders.{hit, passed_on, front_passed}
-use Rattle.field.specs.declared.Value.{Value}
-use Rattle.field.specs.declared.Value.TheVariants.{Symbol, Refused}
+use Rattle.std.proofs.Common.{Ok, Err}
+use Rattle.std.specs.Prelude.{Result}
+use Rattle.refusal.specs.Numbers.{number}
+use Rattle.refusal.specs.declared.Refusal.{Refusal}
+use Rattle.refusal.proofs.Numbers.{positive, same_reason}
 use Rattle.field.specs.Values.{checks, quotient_checks, symbol, meaning, Gives}
 use Rattle.field.specs.Symbols.{Quotient, over}
 use Rattle.field.proofs.Powers.{over_below, over_times, over_unique}
 use Rattle.field.proofs.Instance.{generated}
 
-pub meaning_faithful : (v w : Value) → meaning v ≡ meaning w → v ≡ w
-meaning_faithful (Symbol s) (Symbol t) e = ap Symbol (ap detail_of e)
-meaning_faithful (Symbol s) (Refused k) e = absurd (omega (arith, ap number_of e))
-meaning_faithful (Refused k) (Symbol s) e = absurd (omega (arith, ap number_of e))
-meaning_faithful (Refused k) (Refused j) e = ap Refused (ap detail_of e)
+pub meaning_faithful : (v w : Result ℕ Refusal) → meaning v ≡ meaning w → v ≡ w
+meaning_faithful (Ok s) (Ok t) e = ap Ok (ap detail_of e)
+meaning_faithful (Ok s) (Err r) e = absurd (omega (arith, ap number_of e))
+meaning_faithful (Err r) (Ok s) e = absurd (omega (arith, ap number_of e))
+meaning_faithful (Err r) (Err q) e = ap Err (same_reason r q (ap detail_of e))
 
 module _ (cs : List Check) (s : ℕ) where
-  pub unique : (v w : Value) → Gives cs s v → Gives cs s w → v ≡ w
+  pub unique : (v w : Result ℕ Refusal) → Gives cs s v → Gives cs s w → v ≡ w
   unique v w p q = meaning_faithful v w
       (keeping.unique cs refusal (λ m. m ≡ symbol s) (λ e x y p q. p ∙ sym q) (meaning v) (meaning w) p q)
 
-  pub refuses : {k : ℕ} → k ≡ first cs → (k ≡ 0 → ⊥) → Gives cs s (Refused k)
-  refuses = keeping.refuses cs refusal (λ m. m ≡ symbol s)
+  pub refuses : (r : Refusal) → number r ≡ first cs → Gives cs s (Err r)
+  refuses r e = keeping.refuses cs refusal (λ m. m ≡ symbol s) e (positive r)
 
-  pub gives : {v : ℕ} → 0 ≡ first cs → v ≡ s → Gives cs s (Symbol v)
+  pub gives : {v : ℕ} → 0 ≡ first cs → v ≡ s → Gives cs s (Ok v)
   gives {v} e f = keeping.does cs refusal (λ m. m ≡ symbol s) (symbol v) e (ap symbol f)
 
 pub record Operands (d a b : ℕ) : Type 0 where
@@ -62,7 +66,7 @@ module _ (d a b : ℕ) (none : 0 ≡ first (quotient_checks d a b)) where
   known : Operands d a b
   known = operands d a b (front_passed (checks d a b) _ tt none)
 
-  nonzero : b ≡ 0 → ⊥
+  pub nonzero : b ≡ 0 → ⊥
   nonzero e = let z : 25 ≡ first (quotient_checks d a b) =
       sym (passed_on (checks d a b) _ tt (front_passed (checks d a b) _ tt none) refl ∙ hit 25 _ [] (eq-eqb b 0 e)) in omega arith
 

@@ -20,7 +20,7 @@ use Prim.Native.Nat.{ℕ, zero, suc, ◌+◌, ◌-◌, ◌≤◌, ◌<◌}
 use native.Mathlib.Nat.{add-zero, add-suc, suc-add, zero-add}
 use native.Mathlib.Omega.{arith}
 use lib.Dec.{eqb}
-use lib.ListN.{length, get_or, set, take, drop, replicate, length-map, length-drop, length-set, drop_of_length-le}
+use lib.ListN.{length, get_or, set, take, drop, replicate, length-map, length-drop, drop_of_length-le}
 use borrow.Author.Tests.{ne_eqb}
 use Rattle.patch.specs.Parts.{lay}
 use Rattle.patch.proofs.Parts.{lay_cons}
@@ -190,7 +190,6 @@ module _ (ms l : List ℕ) (i : ℕ) where
 
   -- s and j become s' and j'
   pub record Gathered (s : List ℕ) (j : ℕ) (s' : List ℕ) (j' : ℕ) : Type 0 where
-    pub long : length s' ≡ length s
     pub small : j' ≤ j + 1
     pub counted : j' + length (right (drop (i + 1) ms) (drop (i + 1) l)) ≡ j + length (right (drop i ms) (drop i l))
     pub laid : lay j' (right (drop (i + 1) ms) (drop (i + 1) l)) s' ≡ lay j (right (drop i ms) (drop i l)) s
@@ -206,7 +205,6 @@ module _ (ms l : List ℕ) (i : ℕ) where
         let more = right_in e in
         let size = ap length more in
         record {
-          long = rw es (length-set s j (get_or l i 0));
           small = omega arith;
           counted = omega arith;
           laid = rw (es, ej, more) (lay_cons j (get_or l i 0) (right (drop (i + 1) ms) (drop (i + 1) l)) s (omega arith));
@@ -225,7 +223,7 @@ module _ (ms l : List ℕ) (i : ℕ) where
     gathered_out z es ej =
         let more = right_out z in
         let size = ap length more in
-        record { long = ap length es; small = omega arith; counted = omega arith; laid = rw (es, ej, more) }
+        record { small = omega arith; counted = omega arith; laid = rw (es, ej, more) }
 
 module _ (ms vs l : List ℕ) (i : ℕ) (same : length l ≡ length ms) where
   pub put_none : (j : ℕ) → length ms ≤ i → put (drop i ms) (drop j vs) (drop i l) ≡ []
@@ -234,7 +232,6 @@ module _ (ms vs l : List ℕ) (i : ℕ) (same : length l ≡ length ms) where
 
   -- s and j become s' and j', the row being stored from at on
   pub record Merged (at : ℕ) (s : List ℕ) (j : ℕ) (s' : List ℕ) (j' : ℕ) : Type 0 where
-    pub long : length s' ≡ length s
     pub counted : j' + total (zeros_in (drop (i + 1) ms)) ≡ j + total (zeros_in (drop i ms))
     pub laid : lay (at + (i + 1)) (put (drop (i + 1) ms) (drop j' vs) (drop (i + 1) l)) s'
         ≡ lay (at + i) (put (drop i ms) (drop j vs) (drop i l)) s
@@ -263,7 +260,6 @@ module _ (ms vs l : List ℕ) (i : ℕ) (same : length l ≡ length ms) where
         let one : zeros_in (drop i ms) ≡ 1 ∷ zeros_in (drop (i + 1) ms) = rw e at (zeros_more ms i h) in
         let count = ap total one in
         record {
-          long = rw es (length-set s (at + i) (get_or vs j 0));
           counted = omega arith;
           laid = rw ej (merged_by (get_or vs j 0) (j + 1) (put_in e k) es);
         }
@@ -289,7 +285,6 @@ module _ (ms vs l : List ℕ) (i : ℕ) (same : length l ≡ length ms) where
         let none : zeros_in (drop i ms) ≡ 0 ∷ zeros_in (drop (i + 1) ms) = rw (not_flagged (get_or ms i 0) z) at (zeros_more ms i h) in
         let count = ap total none in
         record {
-          long = rw es (length-set s (at + i) (get_or l i 0));
           counted = omega arith;
           laid = rw ej (merged_by (get_or l i 0) j (put_out z) es);
         }

@@ -5,15 +5,14 @@
 --   refilled d gs ws fs ms ys  a row ys with its wrong columns, where ms is 0, filled in at their points ws; of the right
 --                            columns, where fs is 0, the first have the points gs
 --   Marked c fs ms           the columns with the mark 0 are wrong, their flags are fs, and every row has its columns beside them
---   Filling c t gs ws fs ms y l  what filling in the wrong columns of y, in l, asks for; t is the field's table, gs are the points
---                            of the right columns, and ws those of the wrong ones
+--   Filling c gs ws fs ms y l  what filling in the wrong columns of y, in l, asks for; gs are the points of the right columns, and
+--                            ws those of the wrong ones
 --   filled_at c y fs l        l when the filled array stands in it
 --   fronts c a f             an array and flags at the front of longer ones
 --   released e own lent      what a decoding leaves of the buffers lent, where it worked in buffers of its own
 use Rattle.std.specs.Prelude.{◌≡◌, List, [], ◌∷◌, map, ℕ, zero, suc, ◌*◌, length, take}
 use Rattle.patch.specs.Parts.{lay}
 use Rattle.field.specs.Arithmetic.{gf}
-use Rattle.field.specs.Working.Tables.{IsTable}
 use Rattle.poly.proofs.Forms.{reduce, newton_value_lem}
 use Rattle.codes.specs.Code.{Code, rows, columns, total}
 use Rattle.codes.specs.Lost.{right}
@@ -48,9 +47,8 @@ pub record Marked (c : Code) (fs ms : List ℕ) : Type 0 where
   pub count : length ms ≡ columns c
   pub room : Room (columns c) (total fs) c.lengths
 
-pub record Filling (c : Code) (t gs ws fs ms y l : List ℕ) : Type 0 where
+pub record Filling (c : Code) (gs ws fs ms y l : List ℕ) : Type 0 where
   pub ready : Ready c y
-  pub table : IsTable c.degree t
   pub long : length l ≡ most_cells
   pub marked : Marked c fs ms
   pub good : gs ≡ right fs c.points
@@ -64,7 +62,7 @@ fronts c a f = record { array = take (rows c * columns c) a; flags = take (colum
 
 -- 'its array is written'; 'Every other ending leaves array and flags untouched.'
 abbrev pub released : Ending → Buffers → Buffers → Buffers
-released (Refused k) own lent = lent
+released (Refused r) own lent = lent
 released (Corrected w) own lent = own
 released Nothing own lent = lent
 released (Several t) own lent = lent

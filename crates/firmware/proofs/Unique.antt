@@ -10,8 +10,7 @@ use mathlib.Core.List.{List}
 use Prim.Native.Nat.{ℕ}
 use Rattle.refusal.specs.Meaning.{Meaning, packed}
 use Rattle.codes.specs.Factors.{Description}
-use Rattle.mark.specs.Promises.{meaning, left, Left, Encodes, Reads}
-use Rattle.mark.specs.declared.Outcome.{Outcome}
+use Rattle.mark.specs.Promises.{Outcome, meaning, left, Left, Encodes, Reads}
 use Rattle.mark.proofs.Promised.{meaning_faithful}
 use Rattle.mark.proofs.Demand2.{encodes_unique, reads_unique}
 use Rattle.ending.specs.Endings.{meaning as endingMeaning, Buffers}
@@ -23,7 +22,6 @@ use Rattle.joint.proofs.LostDemands as joint-losing
 use Rattle.powers.specs.Promises as powered
 use Rattle.powers.proofs.Unique as powers-unique
 use Rattle.listing.specs.Promises as listed
-use Rattle.listing.specs.declared.Answer.{Answer}
 use Rattle.listing.proofs.Unique as listing-unique
 use Rattle.tray.specs.Promises.{GivenTray, LeftTray, left_tray, DecodesTray}
 use Rattle.tray.proofs.Unique as tray-unique
@@ -78,10 +76,10 @@ mark_decode g =
     (λ e e' b b' h h'. ended_parts (joint-unique.unique g (ended e b) (ended e' b') h h'))
 
 pub mark_list : (D : Description) (τ : ℕ) (y lent : List ℕ) {r r' : ℕ} {b b' : List ℕ}
-    → Returns listed.meaning (λ (a : Answer). listed.Lists D τ y lent (listed.left a b)) r
-    → Returns listed.meaning (λ (a : Answer). listed.Lists D τ y lent (listed.left a b')) r' → (r ≡ r') × (b ≡ b')
+    → Returns listed.meaning (λ (a : listed.Answer). listed.Lists D τ y lent (listed.left a b)) r
+    → Returns listed.meaning (λ (a : listed.Answer). listed.Lists D τ y lent (listed.left a b')) r' → (r ≡ r') × (b ≡ b')
 mark_list D τ y lent =
-    returns-unique listed.meaning (λ (a : Answer) (b : List ℕ). listed.Lists D τ y lent (listed.left a b))
+    returns-unique listed.meaning (λ (a : listed.Answer) (b : List ℕ). listed.Lists D τ y lent (listed.left a b))
     (λ a a' b b' h h'. let same = listing-unique.unique D τ y lent (listed.left a b) (listed.left a' b') h h' in (
       listing-unique.meaning_faithful a a' (ap (λ (x : listed.Left). x.answer) same),
       ap (λ (x : listed.Left). x.room) same,
@@ -145,7 +143,7 @@ tray_decode g =
     returns-unique meaning (λ (o : Outcome) (b : KeptTray). DecodesTray number g (ended_tray o b))
     (λ o o' b b' h h'.
     let same = tray-unique.unique number g (ended_tray o b) (ended_tray o' b') h h' in
-    (ap (λ (x : LeftTray ℕ). x.outcome) same, ap (λ (x : LeftTray ℕ). (x.answers, x.buffers, x.space)) same))
+    (meaning_faithful o o' (ap (λ (x : LeftTray ℕ). x.outcome) same), ap (λ (x : LeftTray ℕ). (x.answers, x.buffers, x.space)) same))
 
 pub ring_decode_pits : (q m τ : ℕ) (y : List ℕ) (lent : Buffers) (space : List ℕ) {r r' : ℕ} {b b' : Kept}
     → Returns endingMeaning (λ (e : Ending). scattered.Decodes q m τ y lent space (ended e b)) r

@@ -2,7 +2,7 @@
 // include/grenhyrna.h is.
 #![tactic(auto)]
 
-ghost use Rattle.std.specs.Prelude.{◌≡◌, ℕ, ◌≤◌};
+ghost use Rattle.std.specs.Prelude.{◌≡◌, ℕ, Ok, ◌≤◌};
 ghost use Rattle.refusal.specs.Meaning.{packed};
 ghost use Rattle.firmware.specs.Returns.{Returns};
 ghost use Rattle.codes.specs.Factors.{description_of};
@@ -12,48 +12,32 @@ ghost use Rattle.joint.specs.Promises.{Decodes, buffers, given, left as ended};
 ghost use Rattle.joint.specs.Lost.{DecodesLost};
 ghost use Rattle.powers.specs.Promises as powered;
 ghost use Rattle.listing.specs.Promises as listed;
-ghost use Rattle.listing.specs.declared.Answer.TheVariants.{Total};
 ghost use Rattle.tray.specs.Promises.{DecodesTray, given_tray, left_tray};
 ghost use Rattle.ring.specs.Promises as rings;
 ghost use Rattle.sectors.specs.Promises as sectors;
 ghost use Rattle.sectors.specs.Lost as sectors-lost;
 ghost use Rattle.scattered.specs.Promises as scattered;
 
-use ending::Ending;
-use listing::Answer;
-use mark::Outcome;
+use refusal::Refusal;
 
 // The number of an outcome: 256, or the number of the refusal.
-fn number(outcome: Outcome) -> u32
+fn number(outcome: Result<(), Refusal>) -> u32
     ensures { result ≡ packed (meaning outcome) }
 {
     match outcome {
-        Outcome::Done => 256,
-        Outcome::Refused(k) => k as u32,
-    }
-}
-
-// The number of an ending: 256 times its code, and its detail.
-fn pack(ending: Ending) -> u32
-    ensures { result ≡ packed (endingMeaning ending) }
-{
-    match ending {
-        Ending::Refused(k) => k as u32,
-        Ending::Corrected(w) => 256 + w as u32,
-        Ending::Nothing => 512,
-        Ending::Several(t) => 768 + t as u32,
-        Ending::Hollow(t) => 1024 + t as u32,
+        Ok(()) => 256,
+        Err(refused) => u32::from(refused.number()),
     }
 }
 
 // The number of a listing's answer: 256 and the total, or the number of the refusal.
-fn total(answer: Answer) -> u32
-    requires { (t : ℕ) → answer ≡ Total t → t ≤ 16777216 }
+fn total(answer: Result<u32, Refusal>) -> u32
+    requires { (t : ℕ) → answer ≡ Ok t → t ≤ 16777216 }
     ensures { result ≡ packed (listed.meaning answer) }
 {
     match answer {
-        Answer::Total(t) => 256 + t,
-        Answer::Refused(k) => k as u32,
+        Ok(t) => 256 + t,
+        Err(refused) => u32::from(refused.number()),
     }
 }
 
@@ -106,9 +90,10 @@ pub fn gren_mark_decode(
         (buffers answer.old flags.old) space.old)
         (ended e (buffers answer.new flags.new) space.new)) result }
 {
-    pack(joint::decode(
+    joint::decode(
         degree, lengths, points, factors, limit, received, answer, flags, space,
-    ))
+    )
+    .packed()
 }
 
 // Decodes a received array of which some columns are lost.
@@ -129,9 +114,10 @@ pub fn gren_mark_decode_lost(
         (buffers answer.old flags.old) space.old)
         (ended e (buffers answer.new flags.new) space.new)) result }
 {
-    pack(joint::decode_lost(
+    joint::decode_lost(
         degree, lengths, points, factors, limit, lost, received, answer, flags, space,
-    ))
+    )
+    .packed()
 }
 
 // Decodes a received row as so many powers of it.
@@ -152,9 +138,10 @@ pub fn gren_mark_decode_powers(
         (buffers answer.old flags.old) space.old
         (ended e (buffers answer.new flags.new) space.new)) result }
 {
-    pack(powers::decode(
+    powers::decode(
         degree, k, powers, points, factors, limit, received, answer, flags, space,
-    ))
+    )
+    .packed()
 }
 
 // Lists every code array within the trial limit of a received one.
@@ -224,7 +211,7 @@ pub fn gren_ring_decode(
         q m limit received.now (buffers answer.old flags.old) space.old
         (ended e (buffers answer.new flags.new) space.new)) result }
 {
-    pack(sectors::decode(q, m, limit, received, answer, flags, space))
+    sectors::decode(q, m, limit, received, answer, flags, space).packed()
 }
 
 // Decodes a received ring of which some sectors are lost.
@@ -242,7 +229,7 @@ pub fn gren_ring_decode_lost(
         q m limit received.now (buffers answer.old flags.old) space.old
         (ended e (buffers answer.new flags.new) space.new)) result }
 {
-    pack(sectors::decode_lost(q, m, limit, lost, received, answer, flags, space))
+    sectors::decode_lost(q, m, limit, lost, received, answer, flags, space).packed()
 }
 
 // Decodes a received ring by its wrong symbols.
@@ -259,5 +246,5 @@ pub fn gren_ring_decode_pits(
         q m limit received.now (buffers answer.old flags.old) space.old
         (ended e (buffers answer.new flags.new) space.new)) result }
 {
-    pack(scattered::decode(q, m, limit, received, answer, flags, space))
+    scattered::decode(q, m, limit, received, answer, flags, space).packed()
 }

@@ -78,7 +78,7 @@ unfolding sets_of
 last_set p zero left e = refl
 last_set p (suc t) left e = absurd (omega arith)
 
-module _ {D : Description} {t z W : List ℕ} {i more count : ℕ} (h : Choosing D t z W i more count) where
+module _ {D : Description} {z W : List ℕ} {i more count : ℕ} (h : Choosing D z W i more count) where
   abbrev n : ℕ
   n = columns D.code
 
@@ -87,10 +87,9 @@ module _ {D : Description} {t z W : List ℕ} {i more count : ℕ} (h : Choosing
   go_on = under (take i W) (sets_of more (n - i))
 
   module _ (none : more ≡ 0) where
-    pub set_here : Trying D t z (take n W) count
+    pub set_here : Trying D z (take n W) count
     set_here = record {
       quotient = h.quotient;
-      table = h.table;
       set = record {
         sized = length-take-le n W (omega (arith, h.few, h.set.sized));
         small = all_take (λ (f : ℕ). f < 2) n W h.set.small;
@@ -145,10 +144,9 @@ module _ {D : Description} {t z W : List ℕ} {i more count : ℕ} (h : Choosing
       number : length (sets_of more (n - i)) ≡ length (sets_of (more - 1) (n - (i + 1))) + length (sets_of more (n - (i + 1)))
       number = rw fewer_left at (next_number more (n - i) some (omega arith))
 
-      pub with_next : Choosing D t z (set W i 1) (i + 1) (more - 1) count
+      pub with_next : Choosing D z (set W i 1) (i + 1) (more - 1) count
       with_next = record {
         quotient = h.quotient;
-        table = h.table;
         few = h.few;
         set = record {
           sized = length-set W i 1 ∙ h.set.sized;
@@ -161,10 +159,9 @@ module _ {D : Description} {t z W : List ℕ} {i more count : ℕ} (h : Choosing
       }
 
       pub without_next : {r : ℕ} → r ≤ count + length (under (take (i + 1) (set W i 1)) (sets_of (more - 1) (n - (i + 1))))
-          → Choosing D t z W (i + 1) more r
+          → Choosing D z W (i + 1) more r
       without_next {r} f = record {
         quotient = h.quotient;
-        table = h.table;
         few = h.few;
         set = h.set;
         next = omega arith;

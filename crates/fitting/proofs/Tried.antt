@@ -22,8 +22,7 @@ use Rattle.codes.proofs.Flags.{flag-right}
 use Rattle.codes.proofs.Columns.{agree_exactly}
 use Rattle.codes.proofs.Messages.{encoded_array, code_array}
 use Rattle.codes.proofs.Factors.{flags_multiplied, ones_factors}
-use Rattle.mark.specs.Promises.{meaning, Left, Reads}
-use Rattle.mark.specs.declared.Outcome.TheVariants.{Done}
+use Rattle.mark.specs.Promises.{success, Left, Reads}
 use Rattle.mark.proofs.Demand2.{read_done, array_passes}
 use Rattle.mark.proofs.Plain.{struck_ones}
 use Rattle.ending.proofs.Model.{filled}
@@ -33,7 +32,7 @@ use Rattle.fitting.specs.Fitting.{FitsAt, InTurn}
 use Rattle.fitting.specs.Working.{Checked, Flags, PlainFit, Quotient}
 
 pub is_code : {c : Code} → Checked c → (a lent : List ℕ) (x : Left) → length lent ≡ total c.lengths → Reads (plain c) a lent x
-    → (x.outcome ≡ meaning Done) ↔ CodeArray c a
+    → (x.outcome ≡ success) ↔ CodeArray c a
 unfolding first
 is_code {c} h a lent x e r = let is = read_done (plain c) a lent x r in (
   λ d. let (m, i, w) = (is.0 d).1 in (m, i, sym (struck_ones h.proper i) ∙ w),

@@ -7,14 +7,13 @@
 --   kept count a room    the room with a behind so many others, if it reaches so far; placed count l room, with all of l
 --   Keeping d fs r a count    an array of r rows, factors, and so many arrays before it
 --   Quotient D z         a description whose checks passed, and the quotient of what was received
---   Trying D t z W count      what trying W, with so many arrays found before, asks
+--   Trying D z W count   what trying W, with so many arrays found before, asks
 --   Turned D z Ws count room r room'    the sets Ws were tried, with so many arrays found before and r then
 --   under p Ws           the sets Ws behind the columns p
---   Choosing D t z W i more count    what trying all sets that go on with so many more columns from column i on asks
+--   Choosing D z W i more count    what trying all sets that go on with so many more columns from column i on asks
 --   Listing D z τ        what trying all sets of at most τ columns asks
 use Rattle.std.specs.Prelude.{◌≡◌, Bool, true, false, cond, ◌↔◌, List, [], ◌∷◌, ◌++◌, map, ℕ, suc, ◌+◌, ◌-◌, ◌*◌, ◌^◌, ◌≤◌, ◌<◌, leb, length, take, drop, replicate}
 use Rattle.patch.specs.Parts.{lay}
-use Rattle.field.specs.Working.Tables.{IsTable}
 use Rattle.poly.specs.Poly.{All}
 use Rattle.codes.specs.Code.{Code, columns, total, largest, IsArray, CodeArray, flags_of}
 use Rattle.codes.specs.Factors.{Description, multiplied}
@@ -45,9 +44,8 @@ pub record PlainFit (c : Code) (z W a : List ℕ) : Type 0 where
   pub code : CodeArray c a
   pub wrong : flags_of c z a ≡ W
 
-pub record TryingPlain (c : Code) (t z W own : List ℕ) : Type 0 where
+pub record TryingPlain (c : Code) (z W own : List ℕ) : Type 0 where
   pub checked : Checked c
-  pub table : IsTable c.degree t
   pub received : IsArray c z
   pub set : Flags (columns c) W
   pub room : total W + largest c.lengths ≤ columns c
@@ -79,9 +77,8 @@ pub record Quotient (D : Description) (z : List ℕ) : Type 0 where
   pub factors : Factors D
   pub received : IsArray D.code z
 
-pub record Trying (D : Description) (t z W : List ℕ) (count : ℕ) : Type 0 where
+pub record Trying (D : Description) (z W : List ℕ) (count : ℕ) : Type 0 where
   pub quotient : Quotient D z
-  pub table : IsTable D.code.degree t
   pub set : Flags (columns D.code) W
   pub room : total W + largest D.code.lengths ≤ columns D.code
   pub before : count < most
@@ -95,9 +92,8 @@ pub record Turned (D : Description) (z : List ℕ) (Ws : List (List ℕ)) (count
 abbrev pub under : List ℕ → List (List ℕ) → List (List ℕ)
 under p Ws = map (◌++◌ p) Ws
 
-pub record Choosing (D : Description) (t z W : List ℕ) (i more count : ℕ) : Type 0 where
+pub record Choosing (D : Description) (z W : List ℕ) (i more count : ℕ) : Type 0 where
   pub quotient : Quotient D z
-  pub table : IsTable D.code.degree t
   pub few : columns D.code ≤ 16
   pub set : Flags 16 W
   pub next : i ≤ columns D.code

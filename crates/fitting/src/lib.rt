@@ -9,25 +9,14 @@ ghost use Rattle.fitting.specs.Fitting.{sets, sets_of};
 ghost use Rattle.fitting.specs.Working.{Arrays, Checked, Choosing, Keeping, Listing, Trying, TryingPlain, Turned};
 ghost use Rattle.fitting.specs.Working.{FitsPlain, kept, most, under};
 
-use field::tables;
-use field::tables::Table;
-use mark::Outcome;
+use field::Field;
 
 // The flag of column i of two arrays of so many rows of n symbols: 1 if they differ there.
 fn wrong_at(rows: usize, n: usize, i: usize, a: &[u8], b: &[u8]) -> u8
     requires { Arrays rows n a.now b.now × (i < n) }
     ensures { result ≡ flag (differs rows n i a.now b.now) }
 {
-    let mut from = 0;
-    let mut left = rows;
-    while 0 < left {
-        if a[from + i] != b[from + i] {
-            return 1;
-        }
-        from += n;
-        left -= 1;
-    }
-    0
+    u8::from((0..rows).any(|row| a[row * n + i] != b[row * n + i]))
 }
 
 // Whether the set has just the columns in which two arrays of so many rows differ.
@@ -38,14 +27,9 @@ fn wrong_exactly(rows: usize, set: &[u8], a: &[u8], b: &[u8]) -> bool
         ≡ set.now) }
 {
     let n = set.len();
-    let mut i = 0;
-    while i < n {
-        if wrong_at(rows, n, i, a, b) != set[i] {
-            return false;
-        }
-        i += 1;
-    }
-    true
+    set.iter()
+        .enumerate()
+        .all(|(i, flag)| wrong_at(rows, n, i, a, b) == *flag)
 }
 
 // Whether an array is a code array.
@@ -56,39 +40,35 @@ fn is_code(degree: u32, lengths: &[u8], points: &[u8], array: &[u8]) -> bool
     let ones = [1u8; 96];
     let mut message = [0u8; 384];
     let k = array_checks::total(lengths);
-    match mark::read(
+    mark::read(
         degree,
         lengths,
         points,
         &ones[..points.len()],
         array,
         &mut message[..k],
-    ) {
-        Outcome::Done => true,
-        Outcome::Refused(_) => false,
-    }
+    )
+    .is_ok()
 }
 
 // Fills the columns of the set from the others, at the front of own, and answers whether that is a code array that differs from the array
 // in just these columns.
 fn fits(
-    table: &Table,
-    degree: u32,
+    field: &Field,
     lengths: &[u8],
     points: &[u8],
     array: &[u8],
     set: &[u8],
     own: &mut [u8],
 ) -> bool
-    requires { TryingPlain (code_of degree points.now lengths.now) table.now array.now set.now own.old }
-    ensures { FitsPlain (code_of degree points.now lengths.now) array.now set.now
+    requires { TryingPlain (code_of field.now.degree points.now lengths.now) array.now set.now own.old }
+    ensures { FitsPlain (code_of field.now.degree points.now lengths.now) array.now set.now
         own.new result }
 {
     let mut marks = [0u8; 96];
     finish::flag_zeros(set, &mut marks);
     finish::fill(
-        table,
-        degree,
+        field,
         lengths,
         points,
         set,
@@ -96,7 +76,7 @@ fn fits(
         array,
         own,
     );
-    if is_code(degree, lengths, points, &own[..array.len()]) {
+    if is_code(field.degree, lengths, points, &own[..array.len()]) {
         return wrong_exactly(lengths.len(), set, array, &own[..array.len()]);
     }
     false
@@ -118,8 +98,7 @@ fn keep(degree: u32, factors: &[u8], rows: usize, array: &mut [u8], count: usize
 // Tries a set, with so many arrays found before it: the one that fits is laid in the room. Answers how many are found then.
 #[inline(never)]
 fn try_set(
-    table: &Table,
-    degree: u32,
+    field: &Field,
     lengths: &[u8],
     points: &[u8],
     factors: &[u8],
@@ -128,14 +107,14 @@ fn try_set(
     count: usize,
     room: &mut [u8],
 ) -> usize
-    requires { Trying (description_of degree points.now factors.now lengths.now) table.now array.now set.now count }
-    ensures { Turned (description_of degree points.now factors.now lengths.now) array.now
+    requires { Trying (description_of field.now.degree points.now factors.now lengths.now) array.now set.now count }
+    ensures { Turned (description_of field.now.degree points.now factors.now lengths.now) array.now
         (set.now ∷ []) count room.old result room.new }
 {
     let mut own = [0u8; 384];
-    if fits(table, degree, lengths, points, array, set, &mut own) {
+    if fits(field, lengths, points, array, set, &mut own) {
         keep(
-            degree,
+            field.degree,
             factors,
             lengths.len(),
             &mut own[..array.len()],
@@ -150,8 +129,7 @@ fn try_set(
 // Tries the sets that have, of the columns before the next one, those of the set begun, and so many more from the next one on: first
 // those with the next column, then those without it.
 fn choose(
-    table: &Table,
-    degree: u32,
+    field: &Field,
     lengths: &[u8],
     points: &[u8],
     factors: &[u8],
@@ -162,15 +140,14 @@ fn choose(
     count: usize,
     room: &mut [u8],
 ) -> usize
-    requires { Choosing (description_of degree points.now factors.now lengths.now) table.now array.now begun next more count }
-    ensures { Turned (description_of degree points.now factors.now lengths.now) array.now
+    requires { Choosing (description_of field.now.degree points.now factors.now lengths.now) array.now begun next more count }
+    ensures { Turned (description_of field.now.degree points.now factors.now lengths.now) array.now
         (under (take next begun) (sets_of more (length points.now - next))) count room.old result room.new }
 {
     let n = points.len();
     if more == 0 {
         return try_set(
-            table,
-            degree,
+            field,
             lengths,
             points,
             factors,
@@ -187,8 +164,7 @@ fn choose(
     let mut with = begun;
     with[next] = 1;
     let found = choose(
-        table,
-        degree,
+        field,
         lengths,
         points,
         factors,
@@ -200,8 +176,7 @@ fn choose(
         room,
     );
     choose(
-        table,
-        degree,
+        field,
         lengths,
         points,
         factors,
@@ -229,15 +204,13 @@ pub fn list(
     ensures { Turned (description_of degree points.now factors.now lengths.now) array.now
         (sets limit (length points.now)) 0 room.old result room.new × (result ≤ most) }
 {
-    let table = tables::lend(degree);
+    let field = Field::new(degree);
     let none = [0u8; 16];
     let mut count = 0;
-    let mut size = 0;
-    while size <= limit {
+    for size in 0..=limit {
         count = choose(
-            &table, degree, lengths, points, factors, array, none, 0, size, count, room,
+            &field, lengths, points, factors, array, none, 0, size, count, room,
         );
-        size += 1;
     }
     count
 }

@@ -2,8 +2,8 @@
 --
 -- 'Nothing by halves.'
 --   refused_exactly     it is refused exactly when a check applies
---   refused_leaves      then its number is that of the first that does, 1 to 8, 18 or 23, and array, flags and working space are as
---                       lent
+--   refused_leaves      then the reason's number is that of the first that does, 1 to 8, 18 or 23, and array, flags and working
+--                       space are as lent
 --   as_lent             unless the ending is 'corrected', array and flags are as lent
 --   space_cleared       unless it is refused, the first 49,152 bytes of the working space are zero, and those beyond are as lent
 --
@@ -28,6 +28,8 @@ use native.Mathlib.Omega.{arith}
 use lib.ListN.{get_or}
 use Rattle.refusal.specs.Refusal.{first}
 use Rattle.refusal.specs.Meaning.{detail_of, packed}
+use Rattle.refusal.specs.Numbers.{number}
+use Rattle.refusal.specs.declared.Refusal.{Refusal}
 use Rattle.refusal.proofs.Ladders.{first_upto}
 use Rattle.codes.specs.Code.{Code, IsArray, columns, total, flags_of, wrong_count, joint_limit, safe_limit}
 use Rattle.codes.specs.Factors.{Description, multiplied, divided, CodeArrayBy}
@@ -82,37 +84,40 @@ module _ (g : Given) (l : Left) (h : Decodes g l) where
   quotient : Passed → IsArray c (divided D y)
   quotient (p, f) = is_divided D p.array.proper f p.array.received
 
-  never : (k : ℕ) (b : Buffers) → ¬ EndsAs (Refused k) b
-  never = struck_never D y Table (λ k b d. d)
+  never : (r : Refusal) (b : Buffers) → ¬ EndsAs (Refused r) b
+  never = struck_never D y Table (λ r b d. d)
 
   number_upto : first (checks_of g) ≤ 23
   number_upto = first_upto 23 (checks_of g) refl
 
-  pub refused_exactly : IsRefused ↔ ¬ (first (checks_of g) ≡ 0)
-  refused_exactly = halves.refused_exactly (checks_of g) g.lent g.space EndsAs never l h
+  in_table : first (checks_of g) ≤ 26
+  in_table = omega (arith, number_upto)
 
-  pub refused_leaves : (k : ℕ) → l.ending ≡ Refused k
-      → (k ≡ first (checks_of g)) × (1 ≤ k) × (k ≤ 23) × (l.buffers ≡ g.lent) × (l.space ≡ g.space)
-  refused_leaves k e =
-      let (first, some, b, s) = halves.refused_leaves (checks_of g) g.lent g.space EndsAs never l h k e in
+  pub refused_exactly : IsRefused ↔ ¬ (first (checks_of g) ≡ 0)
+  refused_exactly = halves.refused_exactly (checks_of g) g.lent g.space EndsAs in_table never l h
+
+  pub refused_leaves : (r : Refusal) → l.ending ≡ Refused r
+      → (number r ≡ first (checks_of g)) × (1 ≤ number r) × (number r ≤ 23) × (l.buffers ≡ g.lent) × (l.space ≡ g.space)
+  refused_leaves r e =
+      let (first, some, b, s) = halves.refused_leaves (checks_of g) g.lent g.space EndsAs in_table never l h r e in
       (first, some, omega (arith, number_upto), b, s)
 
   others : (e : Ending) (b : Buffers) → Table (divided D y) e b → ((w : ℕ) → ¬ (e ≡ Corrected w)) → b ≡ g.lent
-  others (Refused k) b d n = absurd d
+  others (Refused r) b d n = absurd d
   others (Corrected w) b d n = absurd (n w refl)
   others Nothing b d n = d.1
   others (Several t) b d n = d.2
   others (Hollow t) b d n = d.2
 
   pub as_lent : ¬ IsCorrected → l.buffers ≡ g.lent
-  as_lent = halves.as_lent (checks_of g) g.lent g.space EndsAs never l h (struck_others D y Table g.lent others)
+  as_lent = halves.as_lent (checks_of g) g.lent g.space EndsAs in_table never l h (struck_others D y Table g.lent others)
 
   pub space_cleared : ¬ IsRefused
       → ((i : ℕ) → i < space_bytes → get_or l.space i 0 ≡ 0) × ((i : ℕ) → space_bytes ≤ i → get_or l.space i 0 ≡ get_or g.space i 0)
-  space_cleared = halves.space_cleared (checks_of g) g.lent g.space EndsAs never l h
+  space_cleared = halves.space_cleared (checks_of g) g.lent g.space EndsAs in_table never l h
 
-  ended_as : (e : Ending) → l.ending ≡ e → ((k : ℕ) → ¬ (e ≡ Refused k)) → (0 ≡ first (checks_of g)) × EndsAs e l.buffers
-  ended_as = halves.ended_as (checks_of g) g.lent g.space EndsAs never l h
+  ended_as : (e : Ending) → l.ending ≡ e → ((r : Refusal) → ¬ (e ≡ Refused r)) → (0 ≡ first (checks_of g)) × EndsAs e l.buffers
+  ended_as = halves.ended_as (checks_of g) g.lent g.space EndsAs in_table never l h
 
   -- a struck array is as far from the received one as its quotient is from the quotient
   same_count : (q : Passed) (a : List ℕ) → IsArray c a → wrong_count c y (multiplied D a) ≡ wrong_count c (divided D y) a
@@ -163,13 +168,13 @@ module _ (g : Given) (l : Left) (h : Decodes g l) where
     where
       go : IsArray c (divided D y) → joint_limit c < columns c → columns c ≤ 96 → (e : Ending) → Table (divided D y) e b
           → detail_of (meaning e) < 256
-      go i s m (Refused k) d = absurd d
+      go i s m (Refused r) d = absurd d
       go i s m (Corrected w) d = omega (arith, endings.corrected_within q.array.proper i g.limit d, q.limit)
       go i s m Nothing d = omega arith
       go i s m (Several t) d = omega (arith, d.0.within, q.limit)
       go i s m (Hollow t) d = omega (arith, d.0.within, q.limit)
 
   pub detail_small : detail_of (meaning l.ending) < 256
-  detail_small = halves.by_number (checks_of g) g.lent g.space EndsAs never l h
+  detail_small = halves.by_number (checks_of g) g.lent g.space EndsAs in_table never l h
       (λ p d. small_by (passed p) l.ending d.0.answer d.0.ends)
-      (λ j p d. let e = ap (λ (r : Left). detail_of (meaning r.ending)) d in omega (arith, number_upto))
+      (λ r p d. let e = ap (λ (x : Left). detail_of (meaning x.ending)) d in omega (arith, number_upto))

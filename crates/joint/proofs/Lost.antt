@@ -289,14 +289,14 @@ module _ (c : Code) (L : List ℕ) where
       -- the decoding of the remaining columns ends alike
       pub found_ends : (lent : Buffers) (e : Ending) (left : Buffers) → LostEnds c L y τ lent e left → (b : Buffers)
           × Ends rest (core_of c L y) τ lent e b
-      found_ends lent (Refused k) left h = absurd h
+      found_ends lent (Refused r) left h = absurd h
       found_ends lent (Corrected w) left h = (h.found, h.corrects)
       found_ends lent Nothing left h = (left, h)
       found_ends lent (Several t) left h = (left, h)
       found_ends lent (Hollow t) left h = (left, h)
 
       same_left : (lent : Buffers) (e : Ending) (x x' : Buffers) → LostEnds c L y τ lent e x → LostEnds c L y τ lent e x' → x ≡ x'
-      same_left lent (Refused k) x x' h h' = absurd h
+      same_left lent (Refused r) x x' h h' = absurd h
       same_left lent (Corrected w) x x' h h' =
           let one = (unique rest_proper rest_received τ r.limit (Corrected w) (Corrected w) lent h.found h'.found h.corrects
           h'.corrects).1 in
@@ -323,7 +323,7 @@ module _ (c : Code) (L : List ℕ) where
   -- any other ending than 'corrected' leaves whatever buffers were lent
   pub others_by : (y : List ℕ) (τ : ℕ) (lent left : Buffers) (e : Ending) → ((w : ℕ) → ¬ (e ≡ Corrected w))
       → Ends rest (core_of c L y) τ lent e left → (b : Buffers) → LostEnds c L y τ b e b
-  others_by y τ lent left (Refused k) o h b = absurd h
+  others_by y τ lent left (Refused r) o h b = absurd h
   others_by y τ lent left (Corrected w) o h b = absurd (o w refl)
   others_by y τ lent left Nothing o h b = (h.0, refl)
   others_by y τ lent left (Several t) o h b = (h.0, h.1, refl)
@@ -332,7 +332,7 @@ module _ (c : Code) (L : List ℕ) where
   -- 'Received symbols in lost columns have no influence'
   pub same_rest : Proper c → {y y' : List ℕ} → IsArray c y → IsArray c y' → core_of c L y ≡ core_of c L y'
       → (τ : ℕ) (lent : Buffers) (e : Ending) (left : Buffers) → LostEnds c L y τ lent e left → LostEnds c L y' τ lent e left
-  same_rest p {y} {y'} i i' s τ lent (Refused k) left h = absurd h
+  same_rest p {y} {y'} i i' s τ lent (Refused r) left h = absurd h
   same_rest p {y} {y'} i i' s τ lent (Corrected w) left h =
       let (corrects, array) = subst (λ (z : List ℕ). (k : Corrects rest z τ w h.found) × (left.array ≡ encoded c k.m)) s
       (h.corrects, h.array) in
@@ -368,7 +368,7 @@ module _ (c : Code) {y : List ℕ} (received : IsArray c y) (τ : ℕ) (lent lef
   encoded_none m = ap (λ (d : Code). encoded d m) (core_none c)
 
   pub none_ends : (e : Ending) → LostEnds c [] y τ lent e left ↔ Ends c y τ lent e left
-  none_ends (Refused k) = (λ h. h, λ h. h)
+  none_ends (Refused r) = (λ h. h, λ h. h)
   none_ends (Corrected w) = (to, from)
     where
       to : LostCorrects c [] y τ w left → Corrects c y τ w left

@@ -30,6 +30,8 @@ use native.Mathlib.Omega.{arith}
 use lib.ListN.{length, get_or}
 use Rattle.refusal.specs.Refusal.{first, is_in, some_outside_field}
 use Rattle.refusal.specs.Meaning.{detail_of}
+use Rattle.refusal.specs.Numbers.{number}
+use Rattle.refusal.specs.declared.Refusal.{Refusal}
 use Rattle.refusal.proofs.Ladders.{first_upto}
 use Rattle.field.specs.Symbols.{over}
 use Rattle.codes.specs.Code.{Code, IsArray, columns, rows, CodeArray, flag, flags_of, wrong_count, differs_at, safe_limit, joint_limit}
@@ -116,7 +118,7 @@ module _ {c : Code} {L : List ℕ} (p : Proper c) {τ : ℕ} (r : Remains c τ L
       go (joint_less proper k) k.most_columns e d
     where
       go : joint_limit rest < columns rest → columns rest ≤ 96 → (e : Ending) → LostEnds c L y τ lent e b → detail_of (meaning e) < 256
-      go s m (Refused k) d = absurd d
+      go s m (Refused r) d = absurd d
       go s m (Corrected w) d = omega (arith, endings.corrected_within proper left_array τ d.corrects, r.limit)
       go s m Nothing d = omega arith
       go s m (Several t) d = omega (arith, d.0.within, r.limit)
@@ -153,11 +155,11 @@ module _ (L : List ℕ) (g : Given) where
   quotient : Passed → IsArray c (divided D y)
   quotient (p, f) = is_divided D p.array.proper f p.array.received
 
-  never : (k : ℕ) (b : Buffers) → ¬ EndsAs (Refused k) b
-  never = struck_never D y Table (λ k b d. d)
+  never : (r : Refusal) (b : Buffers) → ¬ EndsAs (Refused r) b
+  never = struck_never D y Table (λ r b d. d)
 
   others_table : (e : Ending) (b : Buffers) → Table (divided D y) e b → ((w : ℕ) → ¬ (e ≡ Corrected w)) → b ≡ g.lent
-  others_table (Refused k) b h n = absurd h
+  others_table (Refused r) b h n = absurd h
   others_table (Corrected w) b h n = absurd (n w refl)
   others_table Nothing b h n = h.1
   others_table (Several t) b h n = h.2
@@ -170,6 +172,9 @@ module _ (L : List ℕ) (g : Given) where
 
   number_upto : first (checks_lost L g) ≤ 23
   number_upto = first_upto 23 (checks_lost L g) refl
+
+  pub in_table : first (checks_lost L g) ≤ 26
+  in_table = omega (arith, number_upto)
 
 -- what is left of the quotients is the same, where what is left of the arrays is
 quotients_same : (L : List ℕ) (D : Description) → Factors D → {y y' : List ℕ} → IsArray D.code y → IsArray D.code y'
@@ -230,22 +235,22 @@ module _ (g : Given) where
 
 module _ (L : List ℕ) (g : Given) (l : Left) (h : DecodesLost L g l) where
   pub refused_exactly : IsRefused l ↔ ¬ (first (checks_lost L g) ≡ 0)
-  refused_exactly = halves.refused_exactly (checks_lost L g) g.lent g.space (EndsAs L g) (never L g) l h
+  refused_exactly = halves.refused_exactly (checks_lost L g) g.lent g.space (EndsAs L g) (in_table L g) (never L g) l h
 
-  pub refused_leaves : (k : ℕ) → l.ending ≡ Refused k
-      → (k ≡ first (checks_lost L g)) × (1 ≤ k) × (l.buffers ≡ g.lent) × (l.space ≡ g.space)
-  refused_leaves = halves.refused_leaves (checks_lost L g) g.lent g.space (EndsAs L g) (never L g) l h
+  pub refused_leaves : (r : Refusal) → l.ending ≡ Refused r
+      → (number r ≡ first (checks_lost L g)) × (1 ≤ number r) × (l.buffers ≡ g.lent) × (l.space ≡ g.space)
+  refused_leaves = halves.refused_leaves (checks_lost L g) g.lent g.space (EndsAs L g) (in_table L g) (never L g) l h
 
   pub as_lent : ¬ IsCorrected l → l.buffers ≡ g.lent
-  as_lent = halves.as_lent (checks_lost L g) g.lent g.space (EndsAs L g) (never L g) l h
+  as_lent = halves.as_lent (checks_lost L g) g.lent g.space (EndsAs L g) (in_table L g) (never L g) l h
       (struck_others (D L g) (y L g) (Table L g) g.lent (others_table L g))
 
   pub space_cleared : ¬ IsRefused l
       → ((i : ℕ) → i < space_bytes → get_or l.space i 0 ≡ 0) × ((i : ℕ) → space_bytes ≤ i → get_or l.space i 0 ≡ get_or g.space i 0)
-  space_cleared = halves.space_cleared (checks_lost L g) g.lent g.space (EndsAs L g) (never L g) l h
+  space_cleared = halves.space_cleared (checks_lost L g) g.lent g.space (EndsAs L g) (in_table L g) (never L g) l h
 
-  ended_as : (e : Ending) → l.ending ≡ e → ((k : ℕ) → ¬ (e ≡ Refused k)) → (0 ≡ first (checks_lost L g)) × EndsAs L g e l.buffers
-  ended_as = halves.ended_as (checks_lost L g) g.lent g.space (EndsAs L g) (never L g) l h
+  ended_as : (e : Ending) → l.ending ≡ e → ((r : Refusal) → ¬ (e ≡ Refused r)) → (0 ≡ first (checks_lost L g)) × EndsAs L g e l.buffers
+  ended_as = halves.ended_as (checks_lost L g) g.lent g.space (EndsAs L g) (in_table L g) (never L g) l h
 
   corrected : (w : ℕ) → l.ending ≡ Corrected w → (0 ≡ first (checks_lost L g)) × EndsAs L g (Corrected w) l.buffers
   corrected w e = ended_as (Corrected w) e (λ k e. let z : ◌≡◌ {A = ℕ} 0 1 = cc in omega arith)
@@ -338,8 +343,8 @@ module _ (L : List ℕ) (g : Given) (l : Left) (h : DecodesLost L g l) where
         go (no q) = omega arith
 
   pub detail_small : detail_of (meaning l.ending) < 256
-  detail_small = halves.by_number (checks_lost L g) g.lent g.space (EndsAs L g) (never L g) l h
+  detail_small = halves.by_number (checks_lost L g) g.lent g.space (EndsAs L g) (in_table L g) (never L g) l h
       (λ none d. let q = passed L g none in
       lost_small q.0.array.proper q.0.remain (quotient L g q) q.0.array.counts g.lent l.ending d.0.answer
       d.0.ends)
-      (λ j e d. let n = ap (λ (r : Left). detail_of (meaning r.ending)) d in omega (arith, number_upto L g))
+      (λ r e d. let n = ap (λ (x : Left). detail_of (meaning x.ending)) d in omega (arith, number_upto L g))

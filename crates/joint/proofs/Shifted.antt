@@ -15,6 +15,7 @@ use Prim.Native.Nat.{ℕ, suc, ◌≤◌}
 use native.Mathlib.Omega.{arith}
 use borrow.Author.Tests.{le-ltb}
 use Rattle.refusal.specs.Refusal.{Check, first}
+use Rattle.refusal.specs.Numbers.{named}
 use Rattle.refusal.proofs.Keeping as keeping
 use Rattle.field.specs.Arithmetic.{gf}
 use Rattle.poly.specs.Poly.{add}
@@ -47,7 +48,7 @@ use Rattle.joint.proofs.LostDemands.{nothing_lost}
 
 module _ (cs ds : List Check) (lent : Buffers) (space : List ℕ) (E F : Ending → Buffers → Type 0) where
   abbrev refused : ℕ → Left
-  refused k = left (Refused k) lent space
+  refused k = left (Refused (named k)) lent space
 
   abbrev Done : (Ending → Buffers → Type 0) → Left → Type 0
   Done T l = T l.ending l.buffers × (l.space ≡ cleared space)
@@ -62,7 +63,7 @@ module _ (cs ds : List Check) (lent : Buffers) (space : List ℕ) (E F : Ending 
 -- an answer is made by f: what g makes of it, f makes of what h makes
 pub made_first : (f g h : List ℕ → List ℕ) (e : Ending) (b : Buffers) → ((w : ℕ) → e ≡ Corrected w → g (f b.array) ≡ f (h b.array))
     → on_corrected g e (on_corrected f e b) ≡ on_corrected f e (on_corrected h e b)
-made_first f g h (Refused k) b same = refl
+made_first f g h (Refused r) b same = refl
 made_first f g h (Corrected w) b same = λ j. record { array = same w refl j; flags = b.flags }
 made_first f g h Nothing b same = refl
 made_first f g h (Several t) b same = refl
@@ -102,7 +103,7 @@ module _ {c : Code} (p : Proper c) (L : List ℕ) (enough : largest c.lengths �
       ∙ ap (add (gf c.degree) (core_of c L y)) (sym (encoded-core c L p m))
 
   pub lost_shift : (e : Ending) (b : Buffers) → LostEnds c L y τ lent e b → LostEnds c L (sum y) τ lent e (on_corrected sum e b)
-  lost_shift (Refused k) b d = d
+  lost_shift (Refused r) b d = d
   lost_shift (Corrected w) b d =
       let (k, is) = corrects_shift (core_proper c L p enough) (core_message c L p h) (core_array c L i) core-sum d.corrects in
       record {
@@ -120,7 +121,7 @@ module _ {c : Code} (p : Proper c) (L : List ℕ) (enough : largest c.lengths �
 
 pub lost_raise : (c : Code) (L y : List ℕ) (τ τ' : ℕ) (lent : Buffers) (e : Ending) (b : Buffers) → τ ≤ τ' → ¬ (e ≡ Nothing)
     → LostEnds c L y τ lent e b → LostEnds c L y τ' lent e b
-lost_raise c L y τ τ' lent (Refused k) b up n d = d
+lost_raise c L y τ τ' lent (Refused r) b up n d = d
 lost_raise c L y τ τ' lent (Corrected w) b up n d = let (k, is) = corrects_raise up d.corrects in record {
   found = d.found;
   corrects = k;
@@ -225,7 +226,7 @@ module _ (L : List ℕ) (D : Description) (lent : Buffers) (space : List ℕ) wh
       → τ ≤ joint_limit (core c L)
   within_joint τ y l h not =
       let never = struck_never D y (λ v. LostEnds c L v τ lent) (λ k b d. d) in
-      let none = (halves.ended_as (checks τ y) lent space (EndsAs τ y) never l h l.ending refl (λ k e. not (k, e))).0 in
+      let none = (halves.ended_as (checks τ y) lent space (EndsAs τ y) (lost.in_table L (given D τ y lent space)) never l h l.ending refl (λ k e. not (k, e))).0 in
       (lost_passed D τ L y lent.array lent.flags space none).0.remain.limit
 
 -- nothing is lost

@@ -9,6 +9,7 @@ use mathlib.Core.Path.{◌≡◌, refl, sym, ap, ap₂, ◌∙◌, subst}
 use mathlib.Core.Logic.{◌↔◌}
 use mathlib.Core.List.{List}
 use Prim.Native.Nat.{ℕ}
+use Rattle.refusal.specs.declared.Refusal.{Refusal}
 use Rattle.poly.specs.Poly.{All}
 use Rattle.codes.specs.Code.{Code, IsArray, columns}
 use Rattle.codes.specs.Factors.{Description, multiplied, divided, ones, plain}
@@ -20,7 +21,7 @@ use Rattle.ending.specs.declared.Ending.TheVariants.{Refused, Corrected, Nothing
 use Rattle.joint.specs.Promises.{on_corrected, Struck}
 
 pub kept_else : (f : List ℕ → List ℕ) (e : Ending) (b : Buffers) → ((w : ℕ) → ¬ (e ≡ Corrected w)) → on_corrected f e b ≡ b
-kept_else f (Refused k) b n = refl
+kept_else f (Refused r) b n = refl
 kept_else f (Corrected w) b n = absurd (n w refl)
 kept_else f Nothing b n = refl
 kept_else f (Several t) b n = refl
@@ -29,15 +30,16 @@ kept_else f (Hollow t) b n = refl
 -- where f leaves the array of 'corrected' alone
 same_array : (f : List ℕ → List ℕ) (e : Ending) (b : Buffers) → ((w : ℕ) → e ≡ Corrected w → f b.array ≡ b.array)
     → on_corrected f e b ≡ b
-same_array f (Refused k) b h = refl
+same_array f (Refused r) b h = refl
 same_array f (Corrected w) b h = λ i. record { array = h w refl i; flags = b.flags }
 same_array f Nothing b h = refl
 same_array f (Several t) b h = refl
 same_array f (Hollow t) b h = refl
 
 module _ (D : Description) (y : List ℕ) (E : List ℕ → Ending → Buffers → Type 0) where
-  pub struck_never : ((k : ℕ) (b : Buffers) → ¬ E (divided D y) (Refused k) b) → (k : ℕ) (b : Buffers) → ¬ Struck D y E (Refused k) b
-  struck_never never k b h = never k h.answer h.ends
+  pub struck_never : ((r : Refusal) (b : Buffers) → ¬ E (divided D y) (Refused r) b) → (r : Refusal) (b : Buffers)
+      → ¬ Struck D y E (Refused r) b
+  struck_never never r b h = never r h.answer h.ends
 
   pub struck_others : (lent : Buffers)
       → ((e : Ending) (b : Buffers) → E (divided D y) e b → ((w : ℕ) → ¬ (e ≡ Corrected w)) → b ≡ lent)

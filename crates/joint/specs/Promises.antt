@@ -10,6 +10,7 @@
 use Rattle.std.specs.Prelude.{◌≡◌, cond, List, ◌++◌, ℕ, drop, replicate}
 use Rattle.refusal.specs.Refusal.{Check}
 use Rattle.refusal.specs.Keeping.{Keeps}
+use Rattle.refusal.specs.Numbers.{named}
 use Rattle.codes.specs.Factors.{Description, divided, multiplied}
 use Rattle.codes.specs.Checks.{space_bytes, decode_checks}
 use Rattle.ending.specs.Endings.{Buffers, Ends, is_corrected}
@@ -44,7 +45,7 @@ cleared w = replicate space_bytes 0 ++ drop space_bytes w
 -- What every decoding promises: cs are its checks, and E its table of endings. 'a refusal touches none'
 abbrev pub Decoding : (cs : List Check) (lent : Buffers) (space : List ℕ) (E : Ending → Buffers → Type 0) → Left → Type 0
 Decoding cs lent space E =
-    Keeps cs (λ k. left (Refused k) lent space) (λ l. E l.ending l.buffers × (l.space ≡ cleared space))
+    Keeps cs (λ k. left (Refused (named k)) lent space) (λ l. E l.ending l.buffers × (l.space ≡ cleared space))
 
 abbrev pub on_corrected : (List ℕ → List ℕ) → Ending → Buffers → Buffers
 on_corrected f e b = buffers (cond (is_corrected e) (f b.array) b.array) b.flags

@@ -3,7 +3,6 @@
 
 ghost use Rattle.std.specs.Prelude.{◌≡◌, true, List, ℕ, ◌≤◌, length, take};
 ghost use Rattle.field.specs.Symbols.{times};
-ghost use Rattle.field.specs.Working.Tables.{IsTable};
 ghost use Rattle.poly.specs.Poly.{All};
 ghost use Rattle.codes.specs.Code.{code_of, columns, joint_limit};
 ghost use Rattle.codes.specs.Factors.{description_of, with_factors};
@@ -21,8 +20,7 @@ ghost use Rattle.joint.specs.Working.{ReadyLost, RestEnds, StruckEnds};
 
 use array_checks::SPACE;
 use ending::Ending;
-use field::tables;
-use field::tables::Table;
+use field::Field;
 
 // For the crates above too: releases the answer and its flags to the buffers lent, on `corrected` alone.
 pub fn release(ending: Ending, own: &[u8], wrong: &[u8], answer: &mut [u8], flags: &mut [u8])
@@ -30,22 +28,15 @@ pub fn release(ending: Ending, own: &[u8], wrong: &[u8], answer: &mut [u8], flag
     ensures { buffers answer.new flags.new
         ≡ released ending (buffers own.now wrong.now) (buffers answer.old flags.old) }
 {
-    match ending {
-        Ending::Refused(_) => {}
-        Ending::Corrected(_) => {
-            patch::copy(own, answer);
-            patch::copy(wrong, flags);
-        }
-        Ending::Nothing => {}
-        Ending::Several(_) => {}
-        Ending::Hollow(_) => {}
+    if let Ending::Corrected(_) = ending {
+        patch::copy(own, answer);
+        patch::copy(wrong, flags);
     }
 }
 
 // Decodes a whole array, for a call that passed its checks; ws is empty or has the inverses of the longest row's rounds.
 fn work_whole(
-    table: &Table,
-    degree: u32,
+    field: &Field,
     lengths: &[u8],
     points: &[u8],
     ws: &[u8],
@@ -55,12 +46,12 @@ fn work_whole(
     flags: &mut [u8],
     space: &mut [u8],
 ) -> Ending
-    requires ready { Ready (code_of degree points.now lengths.now) received.now
-        × (limit ≤ joint_limit (code_of degree points.now lengths.now)) }
+    requires ready { Ready (code_of field.now.degree points.now lengths.now) received.now
+        × (limit ≤ joint_limit (code_of field.now.degree points.now lengths.now)) }
     requires answer_len { (length answer.old ≡ length received.now) × (length flags.old ≡ length points.now)
         × (3840 ≤ length space.old) }
-    requires table { IsTable degree table.now × MayHave degree points.now lengths.now ws.now }
-    ensures { Ends (code_of degree points.now lengths.now) received.now limit
+    requires inverses { MayHave field.now.degree points.now lengths.now ws.now }
+    ensures { Ends (code_of field.now.degree points.now lengths.now) received.now limit
         (buffers answer.old flags.old) result (buffers answer.new flags.new) }
 {
     let mut held = [0u8; 96];
@@ -68,8 +59,7 @@ fn work_whole(
     let mut own = [0u8; 384];
     patch::copy(points, &mut held);
     let ending = judging::end(
-        table,
-        degree,
+        field,
         lengths,
         &held[..points.len()],
         ws,
@@ -91,8 +81,7 @@ fn work_whole(
 
 // How the decoding of the remaining columns ends; on `corrected` with the flags of the wrong ones at the front of `wrong`.
 fn decode_rest(
-    table: &Table,
-    degree: u32,
+    field: &Field,
     lengths: &[u8],
     points: &[u8],
     limit: u32,
@@ -101,12 +90,11 @@ fn decode_rest(
     wrong: &mut [u8],
     space: &mut [u8],
 ) -> Ending
-    requires ready_lost { ReadyLost (code_of degree points.now lengths.now) limit lost.now received.now × (3840 ≤ length space.old)
-        × (length wrong.old ≡ 96) }
-    requires table { IsTable degree table.now }
-    ensures { RestEnds (code_of degree points.now lengths.now) lost.now
+    requires ready_lost { ReadyLost (code_of field.now.degree points.now lengths.now) limit lost.now received.now
+        × (3840 ≤ length space.old) × (length wrong.old ≡ 96) }
+    ensures { RestEnds (code_of field.now.degree points.now lengths.now) lost.now
         received.now limit result
-        (take (columns (core (code_of degree points.now lengths.now) lost.now)) wrong.new)
+        (take (columns (core (code_of field.now.degree points.now lengths.now) lost.now)) wrong.new)
         × (length wrong.new ≡ 96) }
 {
     let gone = remaining::lost_flags(lost);
@@ -117,8 +105,7 @@ fn decode_rest(
     remaining::gather_rows(&gone[..points.len()], lengths, received, &mut kept);
     let cells = lengths.len() * n;
     work_whole(
-        table,
-        degree,
+        field,
         lengths,
         &held[..n],
         &lost[..0],
@@ -133,8 +120,7 @@ fn decode_rest(
 // Decodes, for a call that passed its checks, with whatever columns lost; ws is empty or has the inverses of the
 // longest row's rounds, of all columns.
 fn work_lost(
-    table: &Table,
-    degree: u32,
+    field: &Field,
     lengths: &[u8],
     points: &[u8],
     ws: &[u8],
@@ -145,39 +131,34 @@ fn work_lost(
     flags: &mut [u8],
     space: &mut [u8],
 ) -> Ending
-    requires ready_lost { ReadyLost (code_of degree points.now lengths.now) limit lost.now received.now × (3840 ≤ length space.old) }
+    requires ready_lost { ReadyLost (code_of field.now.degree points.now lengths.now) limit lost.now received.now
+        × (3840 ≤ length space.old) }
     requires answer_len { (length answer.old ≡ length received.now) × (length flags.old ≡ length points.now) }
-    requires table { IsTable degree table.now × MayHave degree points.now lengths.now ws.now }
-    ensures { LostEnds (code_of degree points.now lengths.now) lost.now received.now limit
+    requires inverses { MayHave field.now.degree points.now lengths.now ws.now }
+    ensures { LostEnds (code_of field.now.degree points.now lengths.now) lost.now received.now limit
         (buffers answer.old flags.old) result (buffers answer.new flags.new) }
 {
-    if lost.len() == 0 {
+    if lost.is_empty() {
         return work_whole(
-            table, degree, lengths, points, ws, limit, received, answer, flags, space,
+            field, lengths, points, ws, limit, received, answer, flags, space,
         );
     }
     let mut wrong = [0u8; 96];
     let ending = decode_rest(
-        table, degree, lengths, points, limit, lost, received, &mut wrong, space,
+        field, lengths, points, limit, lost, received, &mut wrong, space,
     );
-    match ending {
-        Ending::Refused(_) => {}
-        Ending::Corrected(_) => {
-            let left = points.len() - lost.len();
-            remaining::complete(
-                degree,
-                lengths,
-                points,
-                lost,
-                &wrong[..left],
-                received,
-                answer,
-                flags,
-            );
-        }
-        Ending::Nothing => {}
-        Ending::Several(_) => {}
-        Ending::Hollow(_) => {}
+    if let Ending::Corrected(_) = ending {
+        let left = points.len() - lost.len();
+        remaining::complete(
+            field,
+            lengths,
+            points,
+            lost,
+            &wrong[..left],
+            received,
+            answer,
+            flags,
+        );
     }
     ending
 }
@@ -188,14 +169,8 @@ fn strike(ending: Ending, degree: u32, factors: &[u8], r: usize, answer: &mut [u
     ensures { (f : List ℕ) → buffers answer.new f
         ≡ on_corrected (with_factors (times degree) factors.now r) ending (buffers answer.old f) }
 {
-    match ending {
-        Ending::Refused(_) => {}
-        Ending::Corrected(_) => {
-            factors::multiply(degree, factors, r, answer);
-        }
-        Ending::Nothing => {}
-        Ending::Several(_) => {}
-        Ending::Hollow(_) => {}
+    if let Ending::Corrected(_) = ending {
+        factors::multiply(degree, factors, r, answer);
     }
 }
 
@@ -203,8 +178,7 @@ fn strike(ending: Ending, degree: u32, factors: &[u8], r: usize, answer: &mut [u
 // multiplied back. Where all factors are known to be one there is nothing to divide. ws is empty or has the inverses of the longest row's
 // rounds. What stands in the space is not read, and is not cleared.
 pub fn decode_struck(
-    table: &Table,
-    degree: u32,
+    field: &Field,
     lengths: &[u8],
     points: &[u8],
     ws: &[u8],
@@ -217,31 +191,31 @@ pub fn decode_struck(
     flags: &mut [u8],
     space: &mut [u8],
 ) -> Ending
-    requires ready_lost { ReadyLost (code_of degree points.now lengths.now) limit lost.now received.now × (3840 ≤ length space.old) }
+    requires ready_lost { ReadyLost (code_of field.now.degree points.now lengths.now) limit lost.now received.now
+        × (3840 ≤ length space.old) }
     requires answer_len { (length answer.old ≡ length received.now) × (length flags.old ≡ length points.now) }
-    requires table { IsTable degree table.now × MayHave degree points.now lengths.now ws.now }
-    requires factors { Factors (description_of degree points.now factors.now lengths.now) }
+    requires inverses { MayHave field.now.degree points.now lengths.now ws.now }
+    requires factors { Factors (description_of field.now.degree points.now factors.now lengths.now) }
     requires all { ones ≡ true → All (λ (f : ℕ). f ≡ 1) factors.now }
-    ensures { StruckEnds (description_of degree points.now factors.now lengths.now)
+    ensures { StruckEnds (description_of field.now.degree points.now factors.now lengths.now)
         lost.now
         received.now limit (buffers answer.old flags.old) result
         (buffers answer.new flags.new) }
 {
     if ones {
-        if lost.len() == 0 {
+        if lost.is_empty() {
             return work_whole(
-                table, degree, lengths, points, ws, limit, received, answer, flags, space,
+                field, lengths, points, ws, limit, received, answer, flags, space,
             );
         }
         return work_lost(
-            table, degree, lengths, points, ws, limit, lost, received, answer, flags, space,
+            field, lengths, points, ws, limit, lost, received, answer, flags, space,
         );
     }
     let mut plain = [0u8; 384];
-    factors::divide(degree, factors, lengths.len(), received, &mut plain);
+    factors::divide(field.degree, factors, lengths.len(), received, &mut plain);
     let ending = work_lost(
-        table,
-        degree,
+        field,
         lengths,
         points,
         ws,
@@ -252,7 +226,7 @@ pub fn decode_struck(
         flags,
         space,
     );
-    strike(ending, degree, factors, lengths.len(), answer);
+    strike(ending, field.degree, factors, lengths.len(), answer);
     ending
 }
 
@@ -277,7 +251,7 @@ pub fn decode_lost(
         (left result (buffers answer.new flags.new) space.new) }
 {
     let ones = array_checks::all_ones(factors);
-    let k = array_checks::lost_refusal(
+    if let Err(refused) = array_checks::lost_refusal(
         degree,
         lengths,
         points,
@@ -289,14 +263,12 @@ pub fn decode_lost(
         answer.len(),
         flags.len(),
         space.len(),
-    );
-    if k != 0 {
-        return Ending::Refused(k);
+    ) {
+        return Ending::Refused(refused);
     }
-    let table = tables::lend(degree);
+    let field = Field::new(degree);
     let ending = decode_struck(
-        &table,
-        degree,
+        &field,
         lengths,
         points,
         &received[..0],

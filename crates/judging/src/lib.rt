@@ -3,7 +3,6 @@
 #![tactic(auto)]
 
 ghost use Rattle.std.specs.Prelude.{◌≡◌, true, false, List, ℕ, suc, ◌*◌, ◌≤◌, length, replicate};
-ghost use Rattle.field.specs.Working.Tables.{IsTable};
 ghost use Rattle.codes.specs.Code.{code_of, joint_limit};
 ghost use Rattle.basis.proofs.Lines.{Line, another};
 ghost use Rattle.solver.specs.Working.Held.{HoldsLines, LeadsOf};
@@ -14,7 +13,7 @@ ghost use Rattle.conditions.specs.Working.{MayHave, reduced_points, reduced_valu
 ghost use Rattle.finish.specs.Working.{fronts, released};
 
 use ending::Ending;
-use field::tables::Table;
+use field::Field;
 
 // Whether a line other than those of lead m has a lead within size t.
 fn another_within(leads: &[usize; 5], lines: usize, m: usize, t: usize) -> bool
@@ -31,8 +30,7 @@ fn another_within(leads: &[usize; 5], lines: usize, m: usize, t: usize) -> bool
 
 // Decides on the solver's lines, which the space holds behind `count` conditions.
 fn decide(
-    table: &Table,
-    degree: u32,
+    field: &Field,
     lengths: &[u8],
     points: &[u8],
     limit: u32,
@@ -43,16 +41,16 @@ fn decide(
     array: &mut [u8],
     flags: &mut [u8],
 ) -> Ending
-    requires ready { Ready (code_of degree points.now lengths.now) received.now }
-    requires limit_bound { (limit ≤ joint_limit (code_of degree points.now lengths.now)) × IsTable degree table.now }
+    requires ready { Ready (code_of field.now.degree points.now lengths.now) received.now }
+    requires limit_bound { limit ≤ joint_limit (code_of field.now.degree points.now lengths.now) }
     requires count_bound { (count ≤ 380) × (3840 ≤ length space.now) × (length array.old ≡ most_cells) × (length flags.old ≡ 96) }
-    requires holds_lines { HoldsLines degree count (suc (length lengths.now)) count leads.now space.now
-        (lines_of (code_of degree points.now lengths.now) received.now) }
-    ensures { (lent : Buffers) → decided (code_of degree points.now lengths.now)
+    requires holds_lines { HoldsLines field.now.degree count (suc (length lengths.now)) count leads.now space.now
+        (lines_of (code_of field.now.degree points.now lengths.now) received.now) }
+    ensures { (lent : Buffers) → decided (code_of field.now.degree points.now lengths.now)
         received.now limit lent
         ≡ (
           result,
-          released result (fronts (code_of degree points.now lengths.now) array.new
+          released result (fronts (code_of field.now.degree points.now lengths.now) array.new
               flags.new) lent,
         ) }
 {
@@ -68,8 +66,7 @@ fn decide(
     }
     let from = solver::LINE * p + count;
     finish::divide(
-        table,
-        degree,
+        field,
         lengths,
         points,
         received,
@@ -81,8 +78,7 @@ fn decide(
 
 // How the decoding of a received array with the conditions us at xs ends; the solver works in the space.
 fn locate(
-    table: &Table,
-    degree: u32,
+    field: &Field,
     lengths: &[u8],
     points: &[u8],
     limit: u32,
@@ -93,34 +89,25 @@ fn locate(
     flags: &mut [u8],
     space: &mut [u8],
 ) -> Ending
-    requires ready { Ready (code_of degree points.now lengths.now) received.now }
-    requires limit_bound { (limit ≤ joint_limit (code_of degree points.now lengths.now)) × IsTable degree table.now }
-    requires us_value { (us.now ≡ reduced_values degree points.now lengths.now received.now)
+    requires ready { Ready (code_of field.now.degree points.now lengths.now) received.now }
+    requires limit_bound { limit ≤ joint_limit (code_of field.now.degree points.now lengths.now) }
+    requires us_value { (us.now ≡ reduced_values field.now.degree points.now lengths.now received.now)
         × (xs.now ≡ reduced_points points.now lengths.now) }
     requires in_bounds { (3840 ≤ length space.old) × (length array.old ≡ most_cells) × (length flags.old ≡ 96) }
-    ensures { (lent : Buffers) → decided (code_of degree points.now lengths.now)
+    ensures { (lent : Buffers) → decided (code_of field.now.degree points.now lengths.now)
         received.now limit lent
         ≡ (
           result,
-          released result (fronts (code_of degree points.now lengths.now) array.new
+          released result (fronts (code_of field.now.degree points.now lengths.now) array.new
               flags.new) lent,
         ) }
 {
     let mut counts = [0usize; 4];
     let mut leads = [0usize; 5];
     conditions::row_counts(lengths, points, &mut counts);
-    solver::solve(
-        table,
-        degree,
-        &counts[..lengths.len()],
-        xs,
-        us,
-        &mut leads,
-        space,
-    );
+    solver::solve(field, &counts[..lengths.len()], xs, us, &mut leads, space);
     decide(
-        table,
-        degree,
+        field,
         lengths,
         points,
         limit,
@@ -136,8 +123,7 @@ fn locate(
 // For the crates above: how the decoding of a received array ends, ws being empty or the inverses of its longest row's rounds. A code
 // array is its own answer, and the flags, which come as zeros, are its flags.
 pub fn end(
-    table: &Table,
-    degree: u32,
+    field: &Field,
     lengths: &[u8],
     points: &[u8],
     ws: &[u8],
@@ -147,27 +133,24 @@ pub fn end(
     flags: &mut [u8],
     space: &mut [u8],
 ) -> Ending
-    requires ready { Ready (code_of degree points.now lengths.now) received.now }
-    requires limit_bound { (limit ≤ joint_limit (code_of degree points.now lengths.now)) × IsTable degree table.now }
+    requires ready { Ready (code_of field.now.degree points.now lengths.now) received.now }
+    requires limit_bound { limit ≤ joint_limit (code_of field.now.degree points.now lengths.now) }
     requires in_bounds { (3840 ≤ length space.old) × (length array.old ≡ most_cells) × (flags.old ≡ replicate 96 0) }
-    requires may_have { MayHave degree points.now lengths.now ws.now }
-    ensures { (lent : Buffers) → Ends (code_of degree points.now lengths.now)
+    requires may_have { MayHave field.now.degree points.now lengths.now ws.now }
+    ensures { (lent : Buffers) → Ends (code_of field.now.degree points.now lengths.now)
         received.now limit lent
-        result (released result (fronts (code_of degree points.now lengths.now) array.new
+        result (released result (fronts (code_of field.now.degree points.now lengths.now) array.new
         flags.new) lent) }
 {
     let mut us = [0u8; 384];
     let mut xs = [0u8; 384];
-    let n = conditions::conditions(
-        table, degree, lengths, points, ws, received, &mut us, &mut xs,
-    );
+    let n = conditions::conditions(field, lengths, points, ws, received, &mut us, &mut xs);
     if rows::all_zero(&us[..n]) {
         rows::store(received, array, 0);
         return Ending::Corrected(0);
     }
     locate(
-        table,
-        degree,
+        field,
         lengths,
         points,
         limit,

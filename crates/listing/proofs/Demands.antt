@@ -17,11 +17,13 @@
 use mathlib.Core.Path.{◌≡◌, refl, sym, ap, ◌∙◌, subst}
 use mathlib.Core.Logic.{inl, inr}
 use mathlib.Core.List.{List, [], ◌∷◌}
+use Rattle.std.proofs.Common.{Ok}
 use Prim.Native.Nat.{ℕ, suc, ◌≤◌, ◌<◌}
 use native.Mathlib.Omega.{arith}
 use lib.ListN.{length}
 use Rattle.refusal.specs.Refusal.{first}
-use Rattle.refusal.specs.Meaning.{number_of, detail_of}
+use Rattle.refusal.specs.Meaning.{refusal, number_of, detail_of}
+use Rattle.refusal.specs.declared.Refusal.{Refusal}
 use Rattle.refusal.proofs.Keeping as keeping
 use Rattle.refusal.proofs.Ladders.{first_upto}
 use Rattle.poly.specs.Poly.{All}
@@ -29,7 +31,7 @@ use Rattle.poly.proofs.Roots.{Mem, Distinct}
 use Rattle.codes.specs.Code.{flags_of, wrong_count, safe_limit}
 use Rattle.codes.specs.Factors.{Description, CodeArrayBy}
 use Rattle.codes.specs.Near.{Nearest, Far}
-use Rattle.ending.specs.declared.Ending.TheVariants.{Refused as EndedRefused, Corrected, Nothing}
+use Rattle.ending.specs.declared.Ending.TheVariants.{Refused, Corrected, Nothing}
 use Rattle.ending.proofs.WrongColumns.{all_mem}
 use Rattle.joint.specs.Promises as joint
 use Rattle.joint.proofs.Demands as joints
@@ -37,18 +39,17 @@ use Rattle.fitting.specs.Fitting.{Fitting}
 use Rattle.fitting.proofs.Sets.{Sorted, Earlier}
 use Rattle.fitting.proofs.Listed as listed
 use Rattle.listing.specs.Checks.{list_checks}
-use Rattle.listing.specs.Promises.{meaning, Left, left, written, Lists}
-use Rattle.listing.specs.declared.Answer.TheVariants.{Total, Refused}
+use Rattle.listing.specs.Promises.{of_total, Left, left, refused, written, Lists}
 
 module _ (D : Description) (τ : ℕ) (y room : List ℕ) (x : Left) (h : Lists D τ y room x) where
   abbrev Done : Left → Type 0
-  Done x = (l : List (List ℕ)) × Fitting D τ y l × (x ≡ left (Total (length l)) (written D.code l room))
+  Done x = (l : List (List ℕ)) × Fitting D τ y l × (x ≡ left (Ok (length l)) (written D.code l room))
 
   abbrev by : {P : Type 0} → (0 ≡ first (list_checks D τ y room) → Done x → P)
-      → ((k : ℕ) → suc k ≡ first (list_checks D τ y room) → x ≡ left (Refused (suc k)) room → P) → P
-  by = keeping.told (list_checks D τ y room) (λ k. left (Refused k) room) Done x h
+      → ((k : ℕ) → suc k ≡ first (list_checks D τ y room) → x ≡ refused room (suc k) → P) → P
+  by = keeping.told (list_checks D τ y room) (refused room) Done x h
 
-  pub refused_leaves : (k : ℕ) → x.answer ≡ meaning (Refused k)
+  pub refused_leaves : (k : ℕ) → x.answer ≡ refusal k
       → (k ≡ first (list_checks D τ y room)) × (1 ≤ k) × (k ≤ 23) × (x.room ≡ room)
   refused_leaves k e = by
       (λ z (l, f, is). absurd (omega (arith, ap number_of (sym (ap (λ (x : Left). x.answer) is) ∙ e))))
@@ -61,7 +62,7 @@ module _ (D : Description) (τ : ℕ) (y room : List ℕ) (x : Left) (h : Lists 
       ))
 
   -- of a listing that is not refused
-  module _ (t : ℕ) (is : x.answer ≡ meaning (Total t)) where
+  module _ (t : ℕ) (is : x.answer ≡ of_total t) where
     done : Done x
     done = by (λ z d. d) (λ k z e. absurd (omega (arith, ap number_of (sym (ap (λ (x : Left). x.answer) e) ∙ is))))
 
@@ -140,7 +141,7 @@ module _ (D : Description) (τ : ℕ) (y : List ℕ) (l : List (List ℕ)) (f : 
 -- ---- a decoding of what is listed, with the same code and limit
 
 module _ (g : joint.Given) (l : joint.Left) (d : joint.Decodes g l) (room : List ℕ) (x : Left)
-    (h : Lists g.description g.limit g.received room x) (t : ℕ) (is : x.answer ≡ meaning (Total t)) where
+    (h : Lists g.description g.limit g.received room x) (t : ℕ) (is : x.answer ≡ of_total t) where
   abbrev D : Description
   D = g.description
 
@@ -158,7 +159,7 @@ module _ (g : joint.Given) (l : joint.Left) (d : joint.Decodes g l) (room : List
   pub none_empty : l.ending ≡ Nothing → list ≡ []
   none_empty e = far_empty D g.limit g.received list fits (joints.none_far g l d e)
 
-  pub safe_empty : g.limit ≤ safe_limit D.code → ((k : ℕ) → ¬ (l.ending ≡ EndedRefused k)) → ((w : ℕ) → ¬ (l.ending ≡ Corrected w))
+  pub safe_empty : g.limit ≤ safe_limit D.code → ((r : Refusal) → ¬ (l.ending ≡ Refused r)) → ((w : ℕ) → ¬ (l.ending ≡ Corrected w))
       → list ≡ []
-  safe_empty safe refused corrected = far_empty D g.limit g.received list fits
-      (joints.safe_otherwise g l d safe (λ (k, e). refused k e) (λ (w, e). corrected w e))
+  safe_empty safe not_refused corrected = far_empty D g.limit g.received list fits
+      (joints.safe_otherwise g l d safe (λ (r, e). not_refused r e) (λ (w, e). corrected w e))

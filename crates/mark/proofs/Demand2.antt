@@ -29,8 +29,8 @@ use Rattle.codes.proofs.Proper.{Proper, neither, points_test, symbols_test}
 use Rattle.codes.proofs.Passed.{is_right, encoding, reading}
 use Rattle.codes.proofs.Messages.{encoded_array, one_message}
 use Rattle.codes.proofs.Factors.{Factors, factors_test, is_multiplied, divided-multiplied}
-use Rattle.mark.specs.Promises.{meaning, Left, Encodes, Reads, done, refused}
-use Rattle.mark.specs.declared.Outcome.TheVariants.{Done, Refused}
+use Rattle.refusal.specs.Meaning.{refusal}
+use Rattle.mark.specs.Promises.{success, Left, Encodes, Reads, done, refused}
 use Rattle.mark.proofs.Promised.{writes_unique, write_done, write_is, write_refused}
 use Rattle.mark.proofs.Promised.{finds, finds_unique, find_done, find_message, find_refused}
 
@@ -39,13 +39,13 @@ module _ (D : Description) (m lent : List ℕ) where
   encodes_unique = writes_unique (encode_checks D m lent) (encoded_by D m) lent
 
   module _ (x : Left) (h : Encodes D m lent x) where
-    pub encode_done : (x.outcome ≡ meaning Done) ↔ (first (encode_checks D m lent) ≡ 0)
+    pub encode_done : (x.outcome ≡ success) ↔ (first (encode_checks D m lent) ≡ 0)
     encode_done = write_done (encode_checks D m lent) (encoded_by D m) lent x h
 
-    pub encode_array : x.outcome ≡ meaning Done → x.buffer ≡ encoded_by D m
+    pub encode_array : x.outcome ≡ success → x.buffer ≡ encoded_by D m
     encode_array = write_is (encode_checks D m lent) (encoded_by D m) lent x h
 
-    pub encode_refused : (k : ℕ) → x.outcome ≡ meaning (Refused k) → (first (encode_checks D m lent) ≡ k) × (x.buffer ≡ lent)
+    pub encode_refused : (k : ℕ) → x.outcome ≡ refusal k → (first (encode_checks D m lent) ≡ k) × (x.buffer ≡ lent)
     encode_refused = write_refused (encode_checks D m lent) (encoded_by D m) lent x h
 
 -- no array is struck for two messages
@@ -60,13 +60,13 @@ module _ (D : Description) (a lent : List ℕ) where
       (λ z m m' i i' e. let (passed, h) = reading D a lent z in one_struck passed.proper h i i' e)
 
   module _ (x : Left) (h : Reads D a lent x) where
-    pub read_done : (x.outcome ≡ meaning Done) ↔ ((first (read_checks D a lent) ≡ 0) × CodeArrayBy D a)
+    pub read_done : (x.outcome ≡ success) ↔ ((first (read_checks D a lent) ≡ 0) × CodeArrayBy D a)
     read_done = find_done (read_checks D a lent) (IsMessage D.code) (encoded_by D) a lent x h
 
-    pub read_message : x.outcome ≡ meaning Done → IsMessage D.code x.buffer × (encoded_by D x.buffer ≡ a)
+    pub read_message : x.outcome ≡ success → IsMessage D.code x.buffer × (encoded_by D x.buffer ≡ a)
     read_message = find_message (read_checks D a lent) (IsMessage D.code) (encoded_by D) a lent x h
 
-    pub read-refused : (k : ℕ) → x.outcome ≡ meaning (Refused k)
+    pub read-refused : (k : ℕ) → x.outcome ≡ refusal k
         → ((first (read_checks D a lent) ≡ k) ⊎ ((k ≡ 9) × (CodeArrayBy D a → ⊥))) × (x.buffer ≡ lent)
     read-refused = find_refused (read_checks D a lent) (IsMessage D.code) (encoded_by D) a lent x h
 

@@ -4,27 +4,29 @@
 --   Place c l p q k     row l is at these places, and has k coefficients
 --   first_place, next_place    of the first row; of the next
 --   bounds              a row lies within the message and the array
+--   Left ks a l q rs y  rs and y are what is left of the lengths from row l on, and of the symbols from symbol q on
+--   Taken n ks a l q k row rs y    k and row, of n symbols, are the next, and rs and y what is left behind them
+--   taken               the first of what is left; none_left, where the lengths are out, or fewer symbols are left than a row has
 --   Laid c l p q at rest whole s₀ s    row by row the whole is laid at the front of s₀: s is so far, and the rest comes from at on
 --   laid-first, laid_next, laid_last    before the first row; a row; the whole
---   made                what is lent to those that make rows
 --   copied_lay          what was laid at the front, copied over a whole list
 --   encoded_more        a row's values, laid before the rows that are left
 --   message_more, reduced_more    the same of the message that is read, and of the reduced values
 -- Assumes nothing.
 use mathlib.Core.Path.{◌≡◌, refl, sym, ap, ◌∙◌}
-use mathlib.Core.Logic.{◌↔◌}
+use mathlib.Core.Logic.{◌↔◌, ◌⊎◌, inl, inr}
 use mathlib.Core.List.{List, [], ◌∷◌, ◌++◌, append-nil}
-use Prim.Native.Nat.{ℕ, ◌+◌, ◌*◌, ◌≤◌, ◌<◌}
+use Prim.Native.Nat.{ℕ, zero, suc, ◌+◌, ◌*◌, ◌≤◌, ◌<◌}
 use native.Mathlib.Nat.{suc-mul}
 use native.Mathlib.Numerals.{add-one}
 use native.Mathlib.Omega.{arith}
-use lib.ListN.{length, get_or, take, drop, length-drop, replicate}
-use lib.Seq.{drop-cons, drop-drop, length-take-le, take-length, drop-length}
+use lib.ListN.{length, get_or, take, drop, length-drop}
+use lib.Seq.{drop-cons, drop-drop, length-take-le, take-length, drop-length, take_at, drop_at}
+use Rattle.std.proofs.lemmas.List.{drop_more}
 use Rattle.patch.specs.Parts.{lay}
 use Rattle.patch.proofs.Parts.{lay_none, take-lay, lay_behind}
 use Rattle.refusal.proofs.Laws.{each_within}
 use Rattle.field.specs.Arithmetic.{gf}
-use Rattle.field.specs.Working.Tables.{IsTable}
 use Rattle.field.proofs.Laws.{Field}
 use Rattle.field.proofs.Instance.{field}
 use Rattle.poly.specs.Poly.{Zero, values_at}
@@ -33,11 +35,10 @@ use Rattle.poly.proofs.Values.{length-values}
 use Rattle.poly.proofs.Differences.{length_reduce}
 use Rattle.poly.proofs.Newton.{length_newton}
 use Rattle.codes.specs.Code.{Code, columns, rows, total, encoded_rows}
-use Rattle.codes.proofs.Parts.{all_drop}
+use Rattle.codes.proofs.Parts.{all_drop, empty}
 use Rattle.codes.proofs.Proper.{Proper, lengths_test}
 use Rattle.codes.proofs.Passed.{Counts}
 use Rattle.codes.proofs.Messages.{message_rows, ReducedRows, length-encoded, length_message}
-use Rattle.mark.specs.Working.{Made}
 
 -- the rows before row l have p coefficients and q symbols
 pub record Before (c : Code) (l p q : ℕ) : Type 0 where
@@ -45,7 +46,7 @@ pub record Before (c : Code) (l p q : ℕ) : Type 0 where
   pub message : p + total (drop l c.lengths) ≡ total c.lengths
   pub array : q + length (drop l c.lengths) * columns c ≡ rows c * columns c
 
-pub first_place : (c : Code) → Before c 0 0 0
+first_place : (c : Code) → Before c 0 0 0
 first_place c = record { within = omega arith; message = omega arith; array = omega arith }
 
 pub record Place (c : Code) (l p q k : ℕ) : Type 0 where
@@ -97,6 +98,39 @@ module _ {c : Code} {l p q k : ℕ} (h : Place c l p q k) where
         symbols = h.counts.cells;
       }
 
+pub record Left (ks a : List ℕ) (l q : ℕ) (rs y : List ℕ) : Type 0 where
+  pub lengths : rs ≡ drop l ks
+  pub symbols : y ≡ drop q a
+
+pub record Taken (n : ℕ) (ks a : List ℕ) (l q k : ℕ) (row rs y : List ℕ) : Type 0 where
+  pub here : l < length ks
+  pub count : k ≡ get_or ks l 0
+  pub symbols : row ≡ take n (drop q a)
+  pub left : Left ks a (l + 1) (q + n) rs y
+
+fewer : (m n : ℕ) → m * n < n → m ≡ 0
+fewer zero n h = refl
+fewer (suc m) n h = absurd (omega (arith, suc-mul m n))
+
+module _ {ks a : List ℕ} {l q : ℕ} {rs y : List ℕ} (h : Left ks a l q rs y) where
+  pub taken : {n k : ℕ} {row rs' y' : List ℕ} → rs ≡ k ∷ rs' → y ≡ row ++ y' → length row ≡ n → Taken n ks a l q k row rs' y'
+  taken {n} {k} {row} {rs'} {y'} is ys size =
+      let here : l < length ks = omega (arith, length-drop l ks, ap length h.lengths, ap length is) in
+      let cut = drop_more ks l 0 here in
+      let rest : drop q a ≡ row ++ y' = sym h.symbols ∙ ys in
+      record {
+        here = here;
+        count = cc;
+        symbols = rw (rest, take_at row y' n size);
+        left = record { lengths = cc; symbols = rw (← drop-drop n q a, rest, drop_at row y' n size) };
+      }
+
+pub none_left : {c : Code} {l p q : ℕ} {a rs y : List ℕ} → Left c.lengths a l q rs y → Before c l p q → length a ≡ rows c * columns c
+    → (length rs ≡ 0) ⊎ (length y < columns c) → drop l c.lengths ≡ []
+none_left {c} {l} h b size (inl e) = sym (empty (drop l c.lengths) (omega (arith, ap length h.lengths)))
+none_left {c} {l} {q = q} {a = a} h b size (inr e) = sym (empty (drop l c.lengths) (fewer (length (drop l c.lengths)) (columns c)
+    (omega (arith, ap length h.symbols, length-drop q a, b.array))))
+
 pub record Laid (c : Code) (l p q at : ℕ) (rest whole s₀ s : List ℕ) : Type 0 where
   pub places : Before c l p q
   pub same : length s ≡ length s₀
@@ -112,9 +146,6 @@ module _ {c : Code} {l p q at : ℕ} {rest whole s₀ s : List ℕ} (h : Laid c 
 
   pub laid_last : rest ≡ [] → s ≡ lay 0 whole s₀
   laid_last e = sym (lay_none at s) ∙ (rw e at h.so_far_lem)
-
-pub made : {c : Code} {t : List ℕ} → Counts c → Proper c → IsTable c.degree t → Made t c (replicate 384 0)
-made h p table = record { counts = h; proper = p; table = table; room = refl }
 
 -- what was laid at the front, copied over the whole of a list that is as long
 pub copied_lay : (v l old : List ℕ) {s out : List ℕ} → s ≡ lay 0 v l → length v ≡ length old → length v ≤ length l

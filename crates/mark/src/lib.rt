@@ -7,11 +7,13 @@ pub mod reading;
 ghost use Rattle.codes.specs.Factors.{description_of};
 ghost use Rattle.mark.specs.Promises.{Encodes, Reads, left};
 
-// How an encoding or a reading finished: done with the result written, or refused with its number.
+use refusal::Refusal;
+
+// The outcome of a call, and the next thing, which it hands over whatever the outcome.
 #[derive(Clone, Copy)]
-pub enum Outcome {
-    Done,
-    Refused(u8),
+pub struct Handed<T> {
+    pub outcome: Result<(), Refusal>,
+    pub next: T,
 }
 
 // Writes what is struck for a message: its code array, each column times its factor; refusals 1 to 7, 18 behind 4 and 23 behind 6,
@@ -23,17 +25,14 @@ pub fn encode(
     factors: &[u8],
     message: &[u8],
     array: &mut [u8],
-) -> Outcome
+) -> Result<(), Refusal>
     ensures { Encodes (description_of degree points.now factors.now lengths.now)
         message.now array.old (left result array.new) }
 {
-    let k = array_checks::encode_refusal(degree, lengths, points, factors, message, array.len());
-    if k != 0 {
-        return Outcome::Refused(k);
-    }
+    array_checks::encode_refusal(degree, lengths, points, factors, message, array.len())?;
     encoding::write_array(degree, lengths, points, message, array);
     factors::multiply(degree, factors, lengths.len(), array);
-    Outcome::Done
+    Ok(())
 }
 
 // Writes the message for which an array was struck; refusals 1 to 7, 18 behind 4 and 23 behind 6, and 9 where there is none. They
@@ -45,18 +44,15 @@ pub fn read(
     factors: &[u8],
     array: &[u8],
     message: &mut [u8],
-) -> Outcome
+) -> Result<(), Refusal>
     ensures { Reads (description_of degree points.now factors.now lengths.now)
         array.now message.old (left result message.new) }
 {
-    let k = array_checks::read_refusal(degree, lengths, points, factors, array, message.len());
-    if k != 0 {
-        return Outcome::Refused(k);
-    }
+    array_checks::read_refusal(degree, lengths, points, factors, array, message.len())?;
     let mut plain = [0u8; 384];
     factors::divide(degree, factors, lengths.len(), array, &mut plain);
-    if reading::write_message(degree, lengths, points, &plain[..array.len()], message) {
-        return Outcome::Done;
+    if !reading::write_message(degree, lengths, points, &plain[..array.len()], message) {
+        return Err(Refusal::NoCodeArray);
     }
-    Outcome::Refused(9)
+    Ok(())
 }

@@ -4,33 +4,23 @@ ghost use Rattle.codes.proofs.Passed.{PassedReading};
 ghost use Rattle.mark.specs.Working.{ArrayRead, MessageWritten, RowRead, RowReduced};
 ghost use Rattle.mark.specs.Working.{Reading, ReadingRow, ReadingRows, ReducingRow};
 
-use field::tables;
-use field::tables::Table;
+use field::Field;
 
 // k rounds of divided differences of the row, at the front of s, and whether the values behind its first k are all zero; ws are the
 // inverses of the rounds. Up to 15 symbols behind the row change too.
-fn reduce_row(
-    table: &Table,
-    degree: u32,
-    points: &[u8],
-    k: usize,
-    ws: &[u8],
-    row: &[u8],
-    s: &mut [u8],
-) -> bool
-    requires { ReducingRow degree table.now points.now k ws.now row.now s.old }
-    ensures { RowReduced degree k points.now row.now s.new result }
+fn reduce_row(field: &Field, points: &[u8], k: usize, ws: &[u8], row: &[u8], s: &mut [u8]) -> bool
+    requires { ReducingRow field.now.degree points.now k ws.now row.now s.old }
+    ensures { RowReduced field.now.degree k points.now row.now s.new result }
 {
     rows::store(row, s, 0);
-    rows::lent::reduce(table, degree, points, k, ws, s);
+    rows::lent::reduce(field, points, k, ws, s);
     rows::all_zero(&s[k..row.len()])
 }
 
 // For the crates above: the polynomial of a row's first k divided differences, in s from `at` on, and whether the reduced values
 // are all zero; ws are the inverses of the rounds.
 pub fn read_row(
-    table: &Table,
-    degree: u32,
+    field: &Field,
     points: &[u8],
     k: usize,
     ws: &[u8],
@@ -38,71 +28,50 @@ pub fn read_row(
     s: &mut [u8],
     at: usize,
 ) -> bool
-    requires { ReadingRow degree table.now points.now k ws.now row.now s.old at }
-    ensures { RowRead degree k points.now row.now at s.old s.new result }
+    requires { ReadingRow field.now.degree points.now k ws.now row.now s.old at }
+    ensures { RowRead field.now.degree k points.now row.now at s.old s.new result }
 {
     let mut held = [0u8; 112];
-    let good = reduce_row(table, degree, points, k, ws, row, &mut held);
-    rows::coefficients(table, degree, points, &held[..k], s, at);
+    let good = reduce_row(field, points, k, ws, row, &mut held);
+    rows::coefficients(field, points, &held[..k], s, at);
     good
 }
 
 // Row after row, at the front of s: the message of a code array, ws being the inverses of the longest row's rounds. Answers
 // whether the array is one.
 fn read_rows(
-    table: &Table,
-    degree: u32,
+    field: &Field,
     lengths: &[u8],
     points: &[u8],
     ws: &[u8],
     array: &[u8],
     s: &mut [u8],
 ) -> bool
-    requires { ReadingRows table.now (code_of degree points.now lengths.now) ws.now array.now s.old }
-    ensures { ArrayRead (code_of degree points.now lengths.now) array.now
+    requires { ReadingRows (code_of field.now.degree points.now lengths.now) ws.now array.now s.old }
+    ensures { ArrayRead (code_of field.now.degree points.now lengths.now) array.now
         s.old s.new result }
 {
-    let mut from = 0;
     let mut at = 0;
-    let mut l = 0;
-    while l < lengths.len() {
-        let k = array_checks::wide(lengths[l]);
-        if !read_row(
-            table,
-            degree,
-            points,
-            k,
-            ws,
-            &array[from..from + points.len()],
-            s,
-            at,
-        ) {
+    for (k, row) in lengths.iter().zip(array.chunks_exact(points.len())) {
+        let k = usize::from(*k);
+        if !read_row(field, points, k, ws, row, s, at) {
             return false;
         }
-        from += points.len();
         at += k;
-        l += 1;
     }
     true
 }
 
 // The message of a code array, at the front of s. Answers whether the array is one.
-fn read_array(
-    table: &Table,
-    degree: u32,
-    lengths: &[u8],
-    points: &[u8],
-    array: &[u8],
-    s: &mut [u8],
-) -> bool
-    requires { Reading table.now (code_of degree points.now lengths.now) array.now s.old }
-    ensures { ArrayRead (code_of degree points.now lengths.now) array.now
+fn read_array(field: &Field, lengths: &[u8], points: &[u8], array: &[u8], s: &mut [u8]) -> bool
+    requires { Reading (code_of field.now.degree points.now lengths.now) array.now s.old }
+    ensures { ArrayRead (code_of field.now.degree points.now lengths.now) array.now
         s.old s.new result }
 {
     let mut ws = [0u8; 9216];
     let k = array_checks::largest(lengths);
-    rows::lent::all_inverses(table, degree, points, k, &mut ws);
-    read_rows(table, degree, lengths, points, &ws, array, s)
+    rows::lent::all_inverses(field, points, k, &mut ws);
+    read_rows(field, lengths, points, &ws, array, s)
 }
 
 // Writes the message of a code array, and answers whether the array is one; where it is none the message's buffer is left as
@@ -118,18 +87,11 @@ pub(crate) fn write_message(
     ensures { MessageWritten (code_of degree points.now lengths.now) array.now
         message.old message.new result }
 {
-    let table = tables::lend(degree);
+    let field = Field::new(degree);
     let mut held = [0u8; 96];
     let mut made = [0u8; 384];
     patch::copy(points, &mut held);
-    let good = read_array(
-        &table,
-        degree,
-        lengths,
-        &held[..points.len()],
-        array,
-        &mut made,
-    );
+    let good = read_array(&field, lengths, &held[..points.len()], array, &mut made);
     if good {
         patch::copy(&made[..message.len()], message);
     }

@@ -14,10 +14,11 @@ use lib.ListN.{length}
 use borrow.Author.Tests.{eq-eqb, le-ltb}
 use Rattle.refusal.specs.Refusal.{Check, ◌when◌, first, bad_degree, outside, some_outside, outside_field, some_outside_field}
 use Rattle.refusal.specs.Refusal.{is_in, repeated, bad_points}
-use Rattle.refusal.proofs.Keeping.{does}
+use Rattle.std.proofs.Common.{Ok}
+use Rattle.refusal.specs.Numbers.{named}
+use Rattle.refusal.proofs.Keeping.{does, refuses}
 use Rattle.field.specs.Symbols.{plus, modulus, times_x, times_low, times, quotient_below, over}
 use Rattle.field.specs.Values.{checks, Gives}
-use Rattle.field.specs.declared.Value.TheVariants.{Symbol}
 use Rattle.poly.specs.Poly.{All, value, values_at, add, scale}
 use Rattle.poly.proofs.Forms.{apart, reduce, newton_value_lem}
 use Rattle.codes.specs.Code.{Code, IsArray, rows, columns, total, largest, encoded_rows, flags_from, joint_limit}
@@ -35,8 +36,7 @@ use Rattle.basis.proofs.Lines.{keep, least, another, size, unit, start_rows_lem,
 use Rattle.ending.specs.Endings.{Buffers, Ends}
 use Rattle.ending.specs.declared.Ending.{Ending}
 use Rattle.ending.specs.declared.Ending.TheVariants.{Refused, Corrected}
-use Rattle.joint.specs.Promises.{Given, given, left, cleared, Struck, checks_of, Decodes}
-use Rattle.joint.proofs.Promised.{refuses}
+use Rattle.joint.specs.Promises.{Given, given, Left, left, cleared, Struck, checks_of, Decodes}
 use Rattle.joint.proofs.Struck.{ones_struck}
 use Rattle.ending.proofs.Model.{reduced_rows, filled_row, filled_in, filled_rows, beyond, divided, alone, within, lowest, decided}
 use Rattle.ending.proofs.ModelExactly.{ends_exactly}
@@ -73,7 +73,7 @@ lent_right c τ y lent w h = ones_array c y lent.array lent.flags w ((8 when ltb
     (le-ltb _ _ h.space))
 
 abbrev Computes : Example → Type 0
-Computes (product degree a b answer) = Gives (checks degree a b) (times degree a b) (Symbol answer)
+Computes (product degree a b answer) = Gives (checks degree a b) (times degree a b) (Ok answer)
 Computes (encoding c m a) = (first (encode_checks (plain c) m a) ≡ 0) × (encoded_by (plain c) m ≡ a) × (length a ≡ rows c * columns c)
 Computes (decoding c τ y e written) = (first (input_checks c τ y) ≡ 0) × ((lent : Buffers) → decided c y τ lent ≡ (e, written lent))
 Computes (refusal c τ y k) = (first (input_checks c τ y) ≡ k) × (k ≡ 0 → ⊥)
@@ -89,6 +89,12 @@ module _ (c : Code) (τ : ℕ) (y : List ℕ) (lent : Buffers) (w : List ℕ) wh
   abbrev Table : List ℕ → Ending → Buffers → Type 0
   Table z = Ends c z τ lent
 
+  abbrev refused : ℕ → Left
+  refused k = left (Refused (named k)) lent w
+
+  abbrev Own : Left → Type 0
+  Own l = Struck (plain c) y Table l.ending l.buffers × (l.space ≡ cleared w)
+
   module _ (passes : first (checks_of g) ≡ 0) where
     passed : PassedDecoding c τ y lent.array lent.flags w
     passed = (passing (plain c) τ y lent.array lent.flags w (sym passes)).0
@@ -98,8 +104,7 @@ module _ (c : Code) (τ : ℕ) (y : List ℕ) (lent : Buffers) (w : List ℕ) wh
     answers n b d = subst (IsArray c) (sym d.array) (encoded_array passed.array.proper d.message)
 
     decoded : (e : Ending) (b : Buffers) → Ends c y τ lent e b → Decodes g (left e b (cleared w))
-    decoded e b h = does (checks_of g) (λ k. left (Refused k) lent w)
-        (λ l. Struck (plain c) y Table l.ending l.buffers × (l.space ≡ cleared w)) _ (sym passes)
+    decoded e b h = does (checks_of g) refused Own _ (sym passes)
         ((ones_struck c passed.array.proper passed.array.received Table answers e b).1 h, refl)
 
 pub holds : (x : Example) → Computes x → Holds x
@@ -113,7 +118,7 @@ holds (decoding c τ y e written) (h, d) = λ lent w l.
     decoded c τ y lent w passes e (written lent)
     ((ends_exactly c τ y w lent (passed c τ y lent w passes) (e, written lent)).1 (d lent))
 holds (refusal c τ y k) (h, some) = λ lent w l.
-    refuses (checks_of (g c τ y lent w)) lent w (Struck (plain c) y (Table c τ y lent w)) (sym (lent_right c τ y lent w l ∙ h)) some
+    refuses (checks_of (g c τ y lent w)) (refused c τ y lent w) (Own c τ y lent w) (sym (lent_right c τ y lent w l ∙ h)) some
 holds (points q ps) h = h
 holds (word q m f w) (z, is, n) = λ lent l.
     writes (Ring.encode_checks q m f lent) (ring_word q m f) lent (let e : length lent ≡ length w = l ∙ sym n in rw e (sym z)) (sym is)

@@ -3,10 +3,10 @@
 --   Example    what an example says, of one call
 --   Holds      that the call's promise is kept so, with factors of one; Lent, buffers are lent at their right lengths
 --   calls      P1 to P10, in order; marked, these and the three records as bytes and lines
-use Rattle.std.specs.Prelude.{◌≡◌, List, [], ◌∷◌, ◌++◌, ℕ, ◌*◌, ◌≤◌, length}
+use Rattle.std.specs.Prelude.{◌≡◌, List, [], ◌∷◌, ◌++◌, ℕ, Ok, ◌*◌, ◌≤◌, length}
+use Rattle.refusal.specs.Numbers.{named}
 use Rattle.field.specs.Symbols.{times}
 use Rattle.field.specs.Values.{checks, Gives}
-use Rattle.field.specs.declared.Value.TheVariants.{Symbol}
 use Rattle.codes.specs.Code.{Code, rows, columns}
 use Rattle.codes.specs.Factors.{plain}
 use Rattle.codes.specs.Checks.{space_bytes}
@@ -43,11 +43,12 @@ pub record Lent (c : Code) (lent : Buffers) (w : List ℕ) : Type 0 where
   pub space : space_bytes ≤ length w
 
 unfoldable pub Holds : Example → Type 0
-Holds (product degree a b answer) = Gives (checks degree a b) (times degree a b) (Symbol answer)
+Holds (product degree a b answer) = Gives (checks degree a b) (times degree a b) (Ok answer)
 Holds (encoding c m a) = (lent : List ℕ) → length lent ≡ rows c * columns c → Encodes (plain c) m lent (done a)
 Holds (decoding c τ y e written) = (lent : Buffers) (w : List ℕ) → Lent c lent w
     → Decodes (given (plain c) τ y lent w) (left e (written lent) (cleared w))
-Holds (refusal c τ y k) = (lent : Buffers) (w : List ℕ) → Lent c lent w → Decodes (given (plain c) τ y lent w) (left (Refused k) lent w)
+Holds (refusal c τ y k) = (lent : Buffers) (w : List ℕ) → Lent c lent w
+    → Decodes (given (plain c) τ y lent w) (left (Refused (named k)) lent w)
 Holds (points q ps) = ring_points q ≡ ps
 Holds (word q m f w) = (lent : List ℕ) → length lent ≡ q * q * q → Ring.Encodes q m f lent (done w)
 Holds (records b lines) = Prints 1 b lines

@@ -9,20 +9,18 @@
 -- Assumes nothing.
 use mathlib.Core.Path.{◌≡◌, refl, sym, ap, ◌∙◌}
 use mathlib.Core.Bool.{true, false, not}
-use mathlib.Core.List.{List}
+use mathlib.Core.List.{List, ◌++◌}
 use Prim.Native.Nat.{ℕ, ◌+◌, ◌*◌, ◌-◌, ◌/◌, ◌≤◌, ◌<◌}
-use native.Mathlib.Nat.{zero-add}
 use native.Mathlib.Omega.{arith}
 use lib.Dec.{eqb}
-use lib.ListN.{length, get_or, take, drop, replicate, get_or-replicate}
+use lib.ListN.{length, get_or, take, drop, replicate, get_or-append, get_or-replicate}
 use lib.Seq.{get_or-take, length-take-le}
-use Rattle.patch.specs.Parts.{part, lay}
-use Rattle.patch.proofs.Parts.{length_part, get_d_part, get_or-lay}
-use Rattle.field.specs.Working.Tables.{IsTable}
+use Rattle.patch.specs.Parts.{part}
+use Rattle.patch.proofs.Parts.{length_part, get_d_part}
 use Rattle.lists.specs.Working.Lists.{summed_at}
 use Rattle.hermitian.specs.Ring.{IsRing}
 use Rattle.hermitian.specs.Checks.{bad_size}
-use Rattle.hermitian.proofs.Sizes.{sides, tested, each}
+use Rattle.hermitian.proofs.Sizes.{sides, each}
 use Rattle.basis.proofs.Basis.{Entry}
 use Rattle.curve.proofs.Model.{used, used_by, least_of, answer}
 use Rattle.pits.specs.Working.Table.{Least}
@@ -39,16 +37,15 @@ twice_taken n k f g l e h same = record {
 }
 
 module _ (q m : ℕ) (r : List ℕ) where
-  pub given : (table ys out xs₂ ys₂ : List ℕ) → Received q m ys r out → IsTable q table → length xs₂ ≡ 128 → length ys₂ ≡ 128
+  pub given : (ys out xs₂ ys₂ : List ℕ) → Received q m ys r out → length xs₂ ≡ 128 → length ys₂ ≡ 128
       → Twice (length r) (λ i. i / q) xs₂ → Twice (length ys) (λ i. get_or ys i 0) ys₂
-      → length ys ≡ length r → Given q m table (take (2 * length r) xs₂) (take (2 * length r) ys₂) r
-  given table ys out xs₂ ys₂ h lent long-x long-y across up same =
+      → length ys ≡ length r → Given q m (take (2 * length r) xs₂) (take (2 * length r) ys₂) r
+  given ys out xs₂ ys₂ h long-x long-y across up same =
       let n = h.ring.count in
       let most = (sides q q h.size refl).most in
       record {
         size = h.size;
         order = h.order;
-        lent = record { degree = (tested q h.size).degree; table = lent };
         ring = h.ring;
         wide = length-take-le (2 * length r) xs₂ (omega (arith, n, most, long-x)) ∙ omega (arith, n);
         high = length-take-le (2 * length r) ys₂ (omega (arith, n, most, long-y)) ∙ omega (arith, n);
@@ -82,17 +79,10 @@ module _ (q m : ℕ) (r : List ℕ) where
       count : length (part at (length r) l) ≡ length r
       count = length_part at (length r) l (omega (arith, weights_room p below, long))
 
-      pub weights_long : length (take (2 * length r * p + length r + length r - (2 * length r * p + length r))
-          (drop (2 * length r * p + length r) l)) ≡ length r
-      unfolding part
-      weights_long = rw cut count
-
-      weight_at : {w : List ℕ} → w ≡ lay 0 (part at (length r) l) (replicate 64 0)
-          → (i : ℕ) → i < q * q * q → get_or w i 0 ≡ get_or l ((q * q * q + q * q * q) * p + (q * q * q + i)) 0
-      weight_at e i lt =
-          ap (λ (u : List ℕ). get_or u i 0) e
-          ∙ rw zero-add at (get_or-lay 0 (part at (length r) l) (replicate 64 0) i (omega (arith, count, ring.count))
-          (omega (arith, count, ring.count, (sides q q size refl).most)))
+      weight_at : {v : List ℕ} (z : List ℕ) → v ≡ part at (length r) l
+          → (i : ℕ) → i < q * q * q → get_or (v ++ z) i 0 ≡ get_or l ((q * q * q + q * q * q) * p + (q * q * q + i)) 0
+      weight_at {v} z e i lt =
+          get_or-append v z 0 i (omega (arith, ap length e, count, ring.count)) ∙ ap (λ (u : List ℕ). get_or u i 0) e
           ∙ get_d_part at (length r) l i (omega (arith, ring.count)) ∙ ap (λ (k : ℕ). get_or l k 0) place
         where
           double : 2 * (q * q * q) ≡ q * q * q + q * q * q
@@ -101,26 +91,25 @@ module _ (q m : ℕ) (r : List ℕ) where
           place : at + i ≡ (q * q * q + q * q * q) * p + (q * q * q + i)
           place = rw (ring.count, double) (omega arith)
 
-      weighed_by : (leads : List ℕ) {w : List ℕ} → Solved q m r (take (length r) (replicate 64 1)) leads l
-          → Least leads (2 * q) p → w ≡ lay 0 (part at (length r) l) (replicate 64 0) → Weighs q m r w
+      weighed_by : (leads : List ℕ) {v : List ℕ} (z : List ℕ) → Solved q m r (take (length r) (replicate 64 1)) leads l
+          → Least leads (2 * q) p → v ≡ part at (length r) l → Weighs q m r (v ++ z)
       unfolding used
-      weighed_by leads {w} h least e i lt =
-          weights_used q m r size _ leads l (h size) p least w (weight_at e) i lt
+      weighed_by leads {v} z h least e i lt =
+          weights_used q m r size _ leads l (h size) p least (v ++ z) (weight_at z e) i lt
           ∙ ap (λ (es : List (Entry ℕ)). used_by q m (least_of es) i) (ran_same q m r _ _ all_flagged)
 
-      pub weighed : (leads : List ℕ) {w : List ℕ} → Solved q m r (take (length r) (replicate 64 1)) leads l
+      pub weighed : (leads : List ℕ) {v : List ℕ} (z : List ℕ) → Solved q m r (take (length r) (replicate 64 1)) leads l
           → Least leads (2 * q) p
-          → w ≡ lay 0 (take (2 * length r * p + length r + length r - (2 * length r * p + length r))
-          (drop (2 * length r * p + length r) l)) (replicate 64 0)
-          → Weighs q m r w
+          → v ≡ take (2 * length r * p + length r + length r - (2 * length r * p + length r)) (drop (2 * length r * p + length r) l)
+          → Weighs q m r (v ++ z)
       unfolding part
-      weighed leads h least e = weighed_by leads h least (rw cut at e)
+      weighed leads z h least e = weighed_by leads z h least (rw cut at e)
 
-    pub answered : (us leads l out : List ℕ) {s : List ℕ} → length l ≡ 1024 → length out ≡ q * q * q → Solved q m r us leads l
-        → s ≡ summed_at (take (length r) l) (lay 0 r out) 0 → s ≡ answer_over q m r us
+    pub answered : (us leads l : List ℕ) {s : List ℕ} → length l ≡ 1024 → Solved q m r us leads l
+        → s ≡ summed_at (take (length r) l) r 0 → s ≡ answer_over q m r us
     unfolding answer_over
-    answered us leads l out long room h e =
-        answer_over_lem q m r size _ leads l (h size) out room ring (take (length r) l)
+    answered us leads l long h e =
+        answer_over_lem q m r size _ leads l (h size) ring (take (length r) l)
         (length-take-le (length r) l (omega (arith, long, ring.count, (sides q q size refl).most)) ∙ ring.count)
         (λ i lt. get_or-take (length r) l i 0 (omega (arith, ring.count))) e
 

@@ -17,7 +17,6 @@ use lib.Seq.{get_or-set_same, get_or-set_other}
 use Rattle.refusal.specs.Refusal.{bad_degree}
 use Rattle.field.specs.Symbols.{plus, times, over}
 use Rattle.field.specs.Arithmetic.{gf}
-use Rattle.field.specs.Working.Tables.{Lent}
 use Rattle.field.proofs.Instance.{field}
 use Rattle.poly.specs.Poly.{All}
 use Rattle.poly.proofs.Ring.{plus_times, times_comm}
@@ -75,11 +74,10 @@ module _ (d : ℕ) (good : bad_degree d ≡ false) {s : ℕ} (few : s ≤ 8) (�
     symbols_held : {es : List (Entry ℕ)} {leads l : List ℕ} → Holds d 𝓢 Fs es leads l → SlotsIn d (length Fs) s l
     symbols_held h j i lj li = rw ((h.each j lj).values i li) ((lawful_at i li).of_symbol _ (h.each j lj).within)
 
-    pub laid_held : {table : List ℕ} {es : List (Entry ℕ)} {leads l : List ℕ} → Lent d table → Symbols d (length xs) xs → length xs ≤ 128
-        → Holds d 𝓢 Fs es leads l → Laid d table xs s l
-    laid_held lent points narrow h =
+    pub laid_held : {es : List (Entry ℕ)} {leads l : List ℕ} → Symbols d (length xs) xs → length xs ≤ 128
+        → Holds d 𝓢 Fs es leads l → Laid d xs s l
+    laid_held points narrow h =
         record {
-          lent = lent;
           points = points;
           narrow = narrow;
           few = few;

@@ -20,9 +20,7 @@ use lib.Dec.{eqb}
 use borrow.Author.Tests.{ne_eqb}
 use lib.ListN.{length, get_or, length-map}
 use lib.Seq.{ext_get_or}
-use Rattle.patch.specs.Parts.{lay}
 use Rattle.patch.proofs.Laws.{length-patch, get_or-patch}
-use Rattle.patch.proofs.Parts.{length-lay, get_or-lay}
 use Rattle.field.specs.Symbols.{plus}
 use Rattle.field.specs.Arithmetic.{gf}
 use Rattle.poly.specs.Poly.{All}
@@ -158,20 +156,19 @@ module _ (q m : ℕ) (r : List ℕ) (size : bad_size q ≡ false) (es : List (En
         rw (least_entry p least) (ap (λ (a : ℕ). not (eqb a 0)) (at i lt ∙ slot_L p i least.below lt))
 
     -- what is left in the end
-    pub answer_over_lem : (out : List ℕ) → length out ≡ q * q * q → IsRing q r → (w : List ℕ) {s : List ℕ} → length w ≡ q * q * q
-        → ((i : ℕ) → i < q * q * q → get_or w i 0 ≡ get_or l i 0) → s ≡ summed_at w (lay 0 r out) 0 → s ≡ answer_by q m r es
+    pub answer_over_lem : IsRing q r → (w : List ℕ) {s : List ℕ} → length w ≡ q * q * q
+        → ((i : ℕ) → i < q * q * q → get_or w i 0 ≡ get_or l i 0) → s ≡ summed_at w r 0 → s ≡ answer_by q m r es
     unfolding answer_by
-    answer_over_lem out room ring w {s} count front e = go es h.count refl
+    answer_over_lem ring w {s} count front e = go es h.count refl
       where
         long : length s ≡ n
-        long = ap length e ∙ length-patch 0 _ (lay 0 r out) (length w) ∙ length-lay 0 r out ∙ room
+        long = ap length e ∙ length-patch 0 _ r (length w) ∙ ring.count
 
         at : (i : ℕ) → i < n → get_or s i 0 ≡ plus (get_or r i 0) ((condition_d q m r i).of (get_or es 0 blank).vec)
         at i lt =
             ap (λ (u : List ℕ). get_or u i 0) e
-            ∙ rw zero-add at (get_or-patch 0 (summed w (lay 0 r out) 0) (lay 0 r out) (length w) i 0 (omega (arith, count))
-            (omega (arith, count, room, length-lay 0 r out)))
-            ∙ unfold summed in ap₂ plus (get_or-lay 0 r out i (omega (arith, ring.count)) (omega (arith, ring.count, room)))
+            ∙ rw zero-add at (get_or-patch 0 (summed w r 0) r (length w) i 0 (omega (arith, count)) (omega (arith, count, ring.count)))
+            ∙ unfold summed in ap₂ plus (ap (λ (k : ℕ). get_or r k 0) (zero-add i))
             (front i lt ∙ ap (λ (k : ℕ). get_or l k 0) (omega arith) ∙ slot_D 0 i some_line lt)
 
         go : (fs : List (Entry ℕ)) → length fs ≡ 2 * q → es ≡ fs → s ≡ answer_by q m r fs

@@ -17,7 +17,7 @@ use Rattle.patch.proofs.Laws.{get_or-patch_below, get_or-patch_above}
 pub line_below : (n s j : ℕ) → j < s → n * j + n ≤ n * s
 line_below n s j lt = omega (arith, mul-suc n j, mul-le-mul_left n lt)
 
-pub slot_below : (n s j i : ℕ) → j < s → i < n → n * j + i < n * s
+slot_below : (n s j i : ℕ) → j < s → i < n → n * j + i < n * s
 slot_below n s j i lt h = omega (arith, line_below n s j lt)
 
 pub patch_other : (n j : ℕ) (f : ℕ → ℕ) (l : List ℕ) (k i : ℕ) → (k ≡ j → ⊥) → i < n

@@ -2,9 +2,9 @@
 --
 --   starting         what the start asks for
 --   running          what the run asks for
---   solved           the table then holds the model's run; solved_long, it is as long as before
+--   solved           the table then holds the model's run
 -- Assumes nothing.
-use mathlib.Core.Path.{◌≡◌, refl, sym, ap, ◌∙◌}
+use mathlib.Core.Path.{◌≡◌, refl}
 use mathlib.Core.List.{List}
 use Prim.Native.Nat.{ℕ, ◌*◌, ◌≤◌}
 use native.Mathlib.Omega.{arith}
@@ -18,19 +18,17 @@ use Rattle.pits.specs.Working.Holds.{Valued, Holds}
 use Rattle.pits.specs.Working.Rings.{forms, start_laid, leads_laid, Starting, Solving, Solved}
 use Rattle.pits.proofs.Points.{column_in, ordinate_in, twice_in}
 use Rattle.pits.proofs.Forms.{forms-valued}
-use Rattle.pits.proofs.Begun.{start_long, leads_low, start_holds}
-use Rattle.pits.proofs.Stepped.{run_keeps}
+use Rattle.pits.proofs.Begun.{leads_low, start_holds}
 use Rattle.pits.proofs.Held.{laid_held}
 use Rattle.pits.proofs.Runs.{ran_holds}
 
-module _ (q m : ℕ) (table xs ys r us leads l : List ℕ) (h : Solving q m table xs ys r us leads l) where
+module _ (q m : ℕ) (xs ys r us leads l : List ℕ) (h : Solving q m xs ys r us leads l) where
   counts : Sides q q
   counts = sides q q h.given.size refl
 
-  pub starting : Starting q table ys r l
+  pub starting : Starting q ys r l
   starting = record {
     size = h.given.size;
-    lent = h.given.lent;
     ring = h.given.ring;
     wide = h.given.high;
     factors = twice_in q (q * q * q) _ ys h.given.high h.given.ordinates (ordinate_in q h.given.size);
@@ -45,23 +43,18 @@ module _ (q m : ℕ) (table xs ys r us leads l : List ℕ) (h : Solving q m tabl
     held = rw (is-leads, is) (start_holds q h.given.size r h.given.ring ys h.given.high l h.long h.given.ordinates m
         h.given.order leads h.eight)
 
-    laid : Laid q table xs (2 * q) l₁
+    laid : Laid q xs (2 * q) l₁
     laid = laid_held q (tested q h.given.size).degree (omega (arith, counts.side)) (ring_pairs q h.given.size m) (forms q m r) xs
-        valued h.given.lent (twice_in q (q * q * q) _ xs h.given.wide h.given.columns (column_in q h.given.size))
+        valued (twice_in q (q * q * q) _ xs h.given.wide h.given.columns (column_in q h.given.size))
         (omega (arith, h.given.wide, counts.most)) held
 
     short : length us ≤ length xs
     short = omega (arith, h.flags, h.given.wide)
 
-    pub running : Running q table xs us (2 * q) leads₁ l₁
+    pub running : Running q xs us (2 * q) leads₁ l₁
     running = record { laid = laid; short = short; low = rw is-leads (leads_low q m leads h.eight h.given.size h.given.order) }
 
     module _ {leads₂ l₂ : List ℕ} (e : (leads₂, l₂) ≡ ran q xs (2 * q) us (length us) (leads₁, l₁)) where
-      pub solved_long : length l₂ ≡ length l
-      solved_long =
-          (run_keeps q xs (2 * q) us (leads₁, l₁) table laid 4096 running.low (length us) short e).long
-          ∙ ap length is ∙ start_long q h.given.size r h.given.ring ys h.given.high l h.long ∙ sym h.long
-
       pub solved : Solved q m r us leads₂ l₂
       solved size = ran_holds q m r us size xs leads₁ l₁ (forms-valued q m r size xs h.given.wide h.given.columns) h.flags
           (rw (is-leads, is) (start_holds q size r h.given.ring ys h.given.high l h.long h.given.ordinates m

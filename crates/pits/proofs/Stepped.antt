@@ -3,12 +3,13 @@
 --   heads_at                    the values as they are read
 --   turning                     what mixing and multiplying ask, of the pivot that is found, where vs are the values
 --   stepped_none, stepped_some  a step that finds no pivot, and one that finds line p and makes t of the slots
---   Keeps d table xs s b τ σ    the memory σ is as long as τ, has symbols, and leads of at most b
+--   Keeps d xs s b τ σ          the memory σ is as long as τ, has symbols, and leads of at most b
 --   step_keeps                  any step leaves lengths and symbols as they were, and leads rise by 8 at most
 --   run_none, run_idle, run_more    no condition; one more, not used; one more, used
 --   run_keeps                   so does a run, by 8 a condition, whatever σ it makes of the memory
 -- Assumes nothing.
 use mathlib.Core.Path.{◌≡◌, refl, sym, ap, ◌∙◌}
+use mathlib.Core.Bool.{false}
 use mathlib.Core.List.{List, [], ◌∷◌}
 use mathlib.Core.Option.{Option, none, some}
 use Prim.Native.Nat.{ℕ, zero, suc, ◌+◌, ◌*◌, ◌≤◌, ◌<◌}
@@ -19,6 +20,7 @@ use native.Mathlib.Omega.{arith}
 use lib.ListN.{length, get_or, set, length-set, replicate, length-replicate}
 use lib.Seq.{get_or-set_other}
 use Rattle.patch.proofs.Laws.{get_or-patch}
+use Rattle.refusal.specs.Refusal.{bad_degree}
 use Rattle.solver.specs.Working.Scan.{first_lowest}
 use Rattle.pits.specs.Working.Table.{Low, Laid, Turning, heads, turned, stepped_by, stepped, ran_by, ran}
 use Rattle.pits.proofs.Lowest.{marked, found_below}
@@ -35,8 +37,8 @@ set_low [] p v b h = omega arith
 set_low (a ∷ l) zero v b h = h
 set_low (a ∷ l) (suc p) v b h = set_low l p v b h
 
-pub record Keeps (d : ℕ) (table xs : List ℕ) (s b : ℕ) (τ σ : List ℕ × List ℕ) : Type 0 where
-  pub laid : Laid d table xs s σ.1
+pub record Keeps (d : ℕ) (xs : List ℕ) (s b : ℕ) (τ σ : List ℕ × List ℕ) : Type 0 where
+  pub laid : Laid d xs s σ.1
   pub low : Low s b σ.0
   pub long : length σ.1 ≡ length τ.1
   pub leads : length σ.0 ≡ length τ.0
@@ -54,8 +56,8 @@ module _ (d : ℕ) (xs : List ℕ) (s i : ℕ) (τ : List ℕ × List ℕ) where
   unfolding stepped stepped_by
   stepped_some same p e made = rw (e, made, same)
 
-  module _ (table : List ℕ) (laid : Laid d table xs s τ.1) (here : i < length xs) where
-    pub turning : {vs : List ℕ} → vs ≡ ds → (p : ℕ) → first_lowest ds τ.0 s ≡ some p → Turning d table xs i s vs p τ.1
+  module _ (laid : Laid d xs s τ.1) (here : i < length xs) where
+    pub turning : {vs : List ℕ} → vs ≡ ds → (p : ℕ) → first_lowest ds τ.0 s ≡ some p → Turning d xs i s vs p τ.1
     turning same p e =
         record {
           laid = laid;
@@ -65,20 +67,19 @@ module _ (d : ℕ) (xs : List ℕ) (s i : ℕ) (τ : List ℕ × List ℕ) where
           nonzero = λ z. marked ds τ.0 s p e (rw same at z);
         }
 
-    module _ (b : ℕ) (low : Low s b τ.0) where
-      keeps_by : (o : Option ℕ) → first_lowest ds τ.0 s ≡ o → Keeps d table xs s (b + 8) τ (stepped_by d xs s i τ o)
+    module _ (good : bad_degree d ≡ false) (b : ℕ) (low : Low s b τ.0) where
+      keeps_by : (o : Option ℕ) → first_lowest ds τ.0 s ≡ o → Keeps d xs s (b + 8) τ (stepped_by d xs s i τ o)
       unfolding stepped_by
       keeps_by none e = record { laid = laid; low = λ j lt. omega (arith, low j lt); long = refl; leads = refl }
       keeps_by (some p) e =
           let line : p < s = found_below ds τ.0 s p e in
           record {
             laid = record {
-              lent = laid.lent;
               points = laid.points;
               narrow = laid.narrow;
               few = laid.few;
               room = omega (arith, laid.room, length-turned d xs i s ds p τ.1);
-              symbols = turned_in d xs i s ds p τ.1 line laid.room laid.lent.degree laid.symbols;
+              symbols = turned_in d xs i s ds p τ.1 line laid.room good laid.symbols;
             };
             low = λ j lt. raised p j lt (ℕ_discrete j p);
             long = length-turned d xs i s ds p τ.1;
@@ -90,7 +91,7 @@ module _ (d : ℕ) (xs : List ℕ) (s i : ℕ) (τ : List ℕ × List ℕ) where
           raised p j lt (no other) =
               rw (get_or-set_other τ.0 p j (get_or τ.0 p 0 + s) 0 other) (omega (arith, low j lt))
 
-      pub step_keeps : Keeps d table xs s (b + 8) τ (stepped d xs s i τ)
+      pub step_keeps : Keeps d xs s (b + 8) τ (stepped d xs s i τ)
       unfolding stepped
       step_keeps = keeps_by _ refl
 
@@ -121,13 +122,13 @@ module _ (d : ℕ) (xs : List ℕ) (s : ℕ) (used : List ℕ) (τ : List ℕ ×
     unfolding ran
     run_more e = rw add-one (more_by (ℕ_discrete (get_or used n 0) 0) e)
 
-  module _ (table : List ℕ) (laid : Laid d table xs s τ.1) (b : ℕ) (low : Low s b τ.0) where
-    next_by : (n : ℕ) (t : Dec (get_or used n 0 ≡ 0)) → n < length xs → Keeps d table xs s (b + 8 * n) τ (after n)
-        → Keeps d table xs s (b + 8 * suc n) τ (ran_by d xs s used n (after n) t)
+  module _ (good : bad_degree d ≡ false) (laid : Laid d xs s τ.1) (b : ℕ) (low : Low s b τ.0) where
+    next_by : (n : ℕ) (t : Dec (get_or used n 0 ≡ 0)) → n < length xs → Keeps d xs s (b + 8 * n) τ (after n)
+        → Keeps d xs s (b + 8 * suc n) τ (ran_by d xs s used n (after n) t)
     unfolding ran_by
     next_by n (yes z) lt k = record { laid = k.laid; low = λ j h. omega (arith, k.low j h); long = k.long; leads = k.leads }
     next_by n (no z) lt k =
-        let next = step_keeps d xs s n (after n) table k.laid lt (b + 8 * n) k.low in
+        let next = step_keeps d xs s n (after n) k.laid lt good (b + 8 * n) k.low in
         record {
           laid = next.laid;
           low = λ j h. omega (arith, next.low j h);
@@ -135,10 +136,10 @@ module _ (d : ℕ) (xs : List ℕ) (s : ℕ) (used : List ℕ) (τ : List ℕ ×
           leads = next.leads ∙ k.leads;
         }
 
-    keeps_after : (n : ℕ) → n ≤ length xs → Keeps d table xs s (b + 8 * n) τ (after n)
+    keeps_after : (n : ℕ) → n ≤ length xs → Keeps d xs s (b + 8 * n) τ (after n)
     unfolding ran
     keeps_after zero le = record { laid = laid; low = λ j lt. omega (arith, low j lt); long = refl; leads = refl }
     keeps_after (suc n) le = next_by n (ℕ_discrete (get_or used n 0) 0) (omega arith) (keeps_after n (omega arith))
 
-    pub run_keeps : (n : ℕ) → n ≤ length xs → {σ : List ℕ × List ℕ} → σ ≡ after n → Keeps d table xs s (b + 8 * n) τ σ
+    pub run_keeps : (n : ℕ) → n ≤ length xs → {σ : List ℕ × List ℕ} → σ ≡ after n → Keeps d xs s (b + 8 * n) τ σ
     run_keeps n le e = rw e (keeps_after n le)

@@ -9,14 +9,15 @@
 -- Assumes nothing.
 use mathlib.Core.Path.{◌≡◌, refl, ap, ◌∙◌}
 use mathlib.Core.Bool.{false}
-use mathlib.Core.List.{List}
+use mathlib.Core.List.{List, ◌++◌}
 use Prim.Native.Nat.{ℕ, ◌+◌, ◌-◌, ◌*◌, ◌^◌, ◌≤◌, ◌<◌}
 use native.Mathlib.Decide.{ℕ_discrete}
 use native.Mathlib.Omega.{arith}
 use lib.ListN.{length, get_or, take, drop}
-use Rattle.patch.specs.Parts.{part, lay}
+use lib.Seq.{take_at}
+use Rattle.patch.specs.Parts.{part}
 use Rattle.patch.proofs.Laws.{length-patch, get_or-patch}
-use Rattle.patch.proofs.Parts.{length_part, get_d_part, take-lay}
+use Rattle.patch.proofs.Parts.{length_part, get_d_part}
 use Rattle.refusal.specs.Refusal.{bad_degree}
 use Rattle.field.specs.Symbols.{plus, times}
 use Rattle.field.specs.Arithmetic.{gf}
@@ -27,12 +28,13 @@ use Rattle.pits.specs.Working.Table.{SlotsIn, lines_mixed, line_of, turned}
 use Rattle.pits.proofs.Slots.{line_below, patch_other}
 use Rattle.pits.proofs.Mixed.{slot_mixed, slot_pivot, slot_in, length-lines, lines_at}
 
-pub copied : (n p : ℕ) (l z : List ℕ) {w : List ℕ} → n * p + n ≤ length l → n ≤ length z
-    → w ≡ lay 0 (take (n * p + n - n * p) (drop (n * p) l)) z → take n w ≡ line_of n p l
+pub copied : (n p : ℕ) (l z : List ℕ) {v : List ℕ} → n * p + n ≤ length l → v ≡ take (n * p + n - n * p) (drop (n * p) l)
+    → take n (v ++ z) ≡ line_of n p l
 unfolding part
-copied n p l z {w} fits room is =
+copied n p l z {v} fits is =
     let e : n * p + n - n * p ≡ n = omega arith in
-    take-lay (part (n * p) n l) z (rw e at is) (length_part (n * p) n l fits) room
+    let line : v ≡ part (n * p) n l = rw e at is in
+    take_at v z n (ap length line ∙ length_part (n * p) n l fits) ∙ line
 
 module _ (d : ℕ) (xs : List ℕ) (i s : ℕ) (ds : List ℕ) (p : ℕ) (l : List ℕ) where
   abbrev n : ℕ

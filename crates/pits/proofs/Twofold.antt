@@ -1,7 +1,6 @@
 -- Lists that have n symbols twice.
 --
 --   twice_patched    written by two loops
---   twice_laid       laid twice
 -- Assumes nothing.
 use mathlib.Core.Path.{◌≡◌, ap, ◌∙◌}
 use mathlib.Core.List.{List}
@@ -10,7 +9,6 @@ use native.Mathlib.Nat.{zero-add}
 use native.Mathlib.Omega.{arith}
 use lib.ListN.{length, get_or}
 use Rattle.patch.specs.Patch.{patch}
-use Rattle.patch.specs.Parts.{lay}
 use Rattle.patch.proofs.Laws.{length-patch, get_or-patch, get_or-patch_below}
 use Rattle.pits.specs.Working.Rings.{Twice}
 
@@ -23,8 +21,3 @@ twice_patched n f l {s} {t} room is e =
           ∙ ap (λ (u : List ℕ). get_or u i 0) is ∙ rw zero-add at (get_or-patch 0 f l n i 0 lt (omega (arith, room)));
       second = λ i lt. ap (λ (u : List ℕ). get_or u (n + i) 0) e ∙ get_or-patch n f s n i 0 lt (omega (arith, room, long));
     }
-
-pub twice_laid : (w l : List ℕ) {s t : List ℕ} → length w + length w ≤ length l → s ≡ lay 0 w l → t ≡ lay (length w) w s
-    → Twice (length w) (λ i. get_or w i 0) t
-unfolding lay
-twice_laid w l room is e = twice_patched (length w) (λ i. get_or w i 0) l room is e

@@ -4,41 +4,20 @@
 
 ghost use Rattle.std.specs.Prelude.{◌≡◌, false, ◌+◌, ◌*◌, ◌/◌, ◌≤◌, ◌<◌, length, get_or};
 ghost use Rattle.patch.specs.Patch.{patch};
-ghost use Rattle.pits.specs.Working.Table.{MixingLine, Mixing, Turning, Stepping, Running, Least};
+ghost use Rattle.pits.specs.Working.Table.{MixingLine, Mixing, Turning, Stepping, Running};
 ghost use Rattle.hermitian.specs.Checks.{bad_size, bad_order};
 ghost use Rattle.curve.proofs.Model as Model;
 ghost use Rattle.pits.specs.Working.Rings.{Twice, Laying, Starting, Given, Solving, Solved, Weighs, Answering, Received};
 ghost use Rattle.pits.specs.Working.Rings.{lines_laid, start_laid, leads_laid, answer_over};
 ghost use Rattle.pits.specs.Working.Table.{line_mixed, lines_mixed, turned, stepped, ran};
 
-use field::tables;
-use field::tables::Table;
-use solver::scan;
-
-// The values of the lines, each of n slots, at condition i.
-fn heads(slots: &[u8], n: usize, i: usize, lines: usize, ds: &mut [u8; 8])
-    requires { (lines ≤ 8) × (i < n) × (n * lines ≤ length slots.now) }
-    ensures { ds.new ≡ patch 0 lines (λ j. get_or slots.now (n * j + i) 0) ds.old }
-{
-    let mut j = 0;
-    while j < lines {
-        ds[j] = slots[n * j + i];
-        j += 1;
-    }
-}
+use field::Field;
+use solver::{scan, turns};
 
 // Adds to line j the multiple of the pivot's line w that takes its value at the condition at hand away.
-fn mix_line(
-    table: &Table,
-    degree: u32,
-    ds: &[u8; 8],
-    p: usize,
-    w: &[u8],
-    j: usize,
-    slots: &mut [u8],
-)
-    requires { MixingLine degree table.now ds.now p w.now j slots.old }
-    ensures { slots.new ≡ line_mixed degree ds.now p w.now j slots.old }
+fn mix_line(field: &Field, ds: &[u8; 8], p: usize, w: &[u8], j: usize, slots: &mut [u8])
+    requires { MixingLine field.now.degree ds.now p w.now j slots.old }
+    ensures { slots.new ≡ line_mixed field.now.degree ds.now p w.now j slots.old }
 {
     if j == p {
         return;
@@ -46,105 +25,67 @@ fn mix_line(
     if ds[j] == 0 {
         return;
     }
-    let c = tables::quotient_from(table, degree, ds[j], ds[p]);
-    lists::add_times(table, degree, c, w, slots, w.len() * j);
+    let c = field.quotient(ds[j], ds[p]);
+    lists::add_times(field, c, w, slots, w.len() * j);
 }
 
 // Adds to every other line the multiple of the pivot's line w that takes its value away.
-fn mix_lines(
-    table: &Table,
-    degree: u32,
-    ds: &[u8; 8],
-    p: usize,
-    w: &[u8],
-    lines: usize,
-    slots: &mut [u8],
-)
-    requires { Mixing degree table.now ds.now p w.now lines slots.old }
-    ensures { slots.new ≡ lines_mixed degree ds.now p w.now lines slots.old }
+fn mix_lines(field: &Field, ds: &[u8; 8], p: usize, w: &[u8], lines: usize, slots: &mut [u8])
+    requires { Mixing field.now.degree ds.now p w.now lines slots.old }
+    ensures { slots.new ≡ lines_mixed field.now.degree ds.now p w.now lines slots.old }
 {
-    let mut j = 0;
-    while j < lines {
-        mix_line(table, degree, ds, p, w, j, slots);
-        j += 1;
+    for j in 0..lines {
+        mix_line(field, ds, p, w, j, slots);
     }
 }
 
 // Mixes the pivot p into the other lines at condition i, and multiplies its value at each point by the sum of that point and point i.
-fn turn(
-    table: &Table,
-    degree: u32,
-    xs: &[u8],
-    i: usize,
-    lines: usize,
-    ds: &[u8; 8],
-    p: usize,
-    slots: &mut [u8],
-)
-    requires { Turning degree table.now xs.now i lines ds.now p slots.old }
-    ensures { slots.new ≡ turned degree xs.now i lines ds.now p slots.old }
+fn turn(field: &Field, xs: &[u8], i: usize, lines: usize, ds: &[u8; 8], p: usize, slots: &mut [u8])
+    requires { Turning field.now.degree xs.now i lines ds.now p slots.old }
+    ensures { slots.new ≡ turned field.now.degree xs.now i lines ds.now p slots.old }
 {
     let n = xs.len();
     let at = n * p;
     let mut w = [0u8; 128];
-    rows::store(&slots[at..at + n], &mut w, 0);
-    mix_lines(table, degree, ds, p, &w[..n], lines, slots);
-    lists::multiply(table, degree, xs, xs[i], slots, at, 0);
+    w[..n].copy_from_slice(&slots[at..at + n]);
+    mix_lines(field, ds, p, &w[..n], lines, slots);
+    lists::multiply(field, xs, xs[i], slots, at, 0);
 }
 
 // Takes the lines over condition i: none changes if all have the value zero there; else the pivot, the first line of lowest lead whose
 // value is not zero, is mixed into the others and multiplied, and its lead rises.
-fn step(
-    table: &Table,
-    degree: u32,
-    xs: &[u8],
-    i: usize,
-    lines: usize,
-    leads: &mut [usize; 8],
-    slots: &mut [u8],
-)
-    requires { Stepping degree table.now xs.now i lines leads.old slots.old }
+fn step(field: &Field, xs: &[u8], i: usize, lines: usize, leads: &mut [usize; 8], slots: &mut [u8])
+    requires { Stepping field.now.degree xs.now i lines leads.old slots.old }
     ensures { (leads.new, slots.new)
-        ≡ stepped degree xs.now lines i (leads.old, slots.old) }
+        ≡ stepped field.now.degree xs.now lines i (leads.old, slots.old) }
 {
     let mut ds = [0u8; 8];
-    heads(slots, xs.len(), i, lines, &mut ds);
+    turns::heads(slots, xs.len(), i, lines, &mut ds);
     let p = scan::pivot(&ds, leads, lines);
     if p < lines {
-        turn(table, degree, xs, i, lines, &ds, p, slots);
+        turn(field, xs, i, lines, &ds, p, slots);
         leads[p] += lines;
     }
 }
 
 // For the crates above: takes the lines over the conditions i at which used[i] is not zero, one after the other.
 pub fn run(
-    table: &Table,
-    degree: u32,
+    field: &Field,
     xs: &[u8],
     used: &[u8],
     lines: usize,
     leads: &mut [usize; 8],
     slots: &mut [u8],
 )
-    requires { Running degree table.now xs.now used.now lines leads.old slots.old }
+    requires { Running field.now.degree xs.now used.now lines leads.old slots.old }
     ensures { (leads.new, slots.new)
-        ≡ ran degree xs.now lines used.now (length used.now) (leads.old, slots.old) }
+        ≡ ran field.now.degree xs.now lines used.now (length used.now) (leads.old, slots.old) }
 {
-    let mut i = 0;
-    while i < used.len() {
-        if used[i] != 0 {
-            step(table, degree, xs, i, lines, leads, slots);
+    for (i, flag) in used.iter().enumerate() {
+        if *flag != 0 {
+            step(field, xs, i, lines, leads, slots);
         }
-        i += 1;
     }
-}
-
-// For the crates above: the number of the first line of least lead.
-pub fn least(leads: &[usize; 8], lines: usize) -> usize
-    requires { (0 < lines) × (lines ≤ 8) }
-    ensures { Least leads.now lines result }
-{
-    scan::pivot(&[1u8; 8], leads, lines)
 }
 
 // The x of the i-th point of a ring; a division by a constant is quicker than one by q.
@@ -160,10 +101,8 @@ fn abscissas(q: u32, n: usize, xs: &mut [u8], at: usize)
     requires { (bad_size q ≡ false) × (n ≤ 64) × (at + n ≤ length xs.old) }
     ensures { xs.new ≡ patch at n (λ i. i / q) xs.old }
 {
-    let mut i = 0;
-    while i < n {
+    for i in 0..n {
         xs[at + i] = abscissa(q, i);
-        i += 1;
     }
 }
 
@@ -185,9 +124,10 @@ fn twice(w: &[u8]) -> [u8; 128]
     ensures twice { Twice (length w.now) (λ i. get_or w.now i 0) result }
     ensures result_len { length result ≡ 128 }
 {
+    let n = w.len();
     let mut v = [0u8; 128];
-    rows::store(w, &mut v, 0);
-    rows::store(w, &mut v, w.len());
+    v[..n].copy_from_slice(w);
+    v[n..2 * n].copy_from_slice(w);
     v
 }
 
@@ -196,47 +136,35 @@ fn lay_leads(first: usize, n: usize, base: usize, by: usize, leads: &mut [usize;
     requires { (first + n ≤ 8) × (base ≤ 1000) × (by ≤ 100) }
     ensures { leads.new ≡ patch first n (λ j. base + j * by) leads.old }
 {
-    let mut j = 0;
-    while j < n {
+    for j in 0..n {
         leads[first + j] = base + j * by;
-        j += 1;
     }
 }
 
 // Lays n lines, the first being line `first`: w, and each further line the one before it times the symbols of ys.
-fn lay_lines(
-    table: &Table,
-    degree: u32,
-    ys: &[u8],
-    w: &mut [u8],
-    first: usize,
-    n: usize,
-    slots: &mut [u8],
-)
-    requires { Laying degree table.now ys.now w.old first n slots.old }
-    ensures { slots.new ≡ lines_laid degree ys.now w.old first n slots.old }
+fn lay_lines(field: &Field, ys: &[u8], w: &mut [u8], first: usize, n: usize, slots: &mut [u8])
+    requires { Laying field.now.degree ys.now w.old first n slots.old }
+    ensures { slots.new ≡ lines_laid field.now.degree ys.now w.old first n slots.old }
 {
-    let mut j = 0;
-    while j < n {
+    for j in 0..n {
         rows::store(&w[..ys.len()], slots, ys.len() * (first + j));
-        lists::multiply(table, degree, ys, 0, w, 0, 0);
-        j += 1;
+        lists::multiply(field, ys, 0, w, 0, 0);
     }
 }
 
 // The lines at the start: L = y^j, and then N = y^j; ys has the y of the points twice.
-fn start_lines(table: &Table, q: u32, ys: &[u8], ring: &[u8], slots: &mut [u8])
-    requires { Starting q table.now ys.now ring.now slots.old }
-    ensures { slots.new ≡ start_laid q ys.now ring.now slots.old }
+fn start_lines(field: &Field, ys: &[u8], ring: &[u8], slots: &mut [u8])
+    requires { Starting field.now.degree ys.now ring.now slots.old }
+    ensures { slots.new ≡ start_laid field.now.degree ys.now ring.now slots.old }
 {
-    let s = q as usize;
+    let s = field.degree as usize;
     let n = ring.len();
     let mut w = [1u8; 128];
     rows::store(ring, &mut w, 0);
-    lay_lines(table, q, ys, &mut w, 0, s, slots);
+    lay_lines(field, ys, &mut w, 0, s, slots);
     let mut v = [1u8; 128];
     rows::clear(&mut v, n, n);
-    lay_lines(table, q, ys, &mut v, s, s, slots);
+    lay_lines(field, ys, &mut v, s, s, slots);
 }
 
 // The leads of the lines at the start.
@@ -252,8 +180,7 @@ fn start_leads(q: u32, m: u32, leads: &mut [usize; 8])
 
 // Takes the lines from the start over those points at which used is not zero; xs and ys have the x and the y of the points twice.
 fn solve(
-    table: &Table,
-    q: u32,
+    field: &Field,
     m: u32,
     xs: &[u8],
     ys: &[u8],
@@ -262,27 +189,26 @@ fn solve(
     leads: &mut [usize; 8],
     slots: &mut [u8],
 )
-    requires { Solving q m table.now xs.now ys.now ring.now used.now leads.old slots.old }
-    ensures solved { Solved q m ring.now used.now leads.new slots.new }
+    requires { Solving field.now.degree m xs.now ys.now ring.now used.now leads.old slots.old }
+    ensures solved { Solved field.now.degree m ring.now used.now leads.new slots.new }
     ensures slots_len_unchanged { length slots.new ≡ length slots.old }
 {
-    start_leads(q, m, leads);
-    start_lines(table, q, ys, ring, slots);
-    run(table, q, xs, used, 2 * (q as usize), leads, slots);
+    start_leads(field.degree, m, leads);
+    start_lines(field, ys, ring, slots);
+    run(field, xs, used, 2 * (field.degree as usize), leads, slots);
 }
 
 // The L of the line of least lead after a run over all points, at every point.
-fn weights(table: &Table, q: u32, m: u32, xs: &[u8], ys: &[u8], ring: &[u8]) -> [u8; 64]
-    requires { Given q m table.now xs.now ys.now ring.now }
-    ensures weighs { Weighs q m ring.now result }
+fn weights(field: &Field, m: u32, xs: &[u8], ys: &[u8], ring: &[u8]) -> [u8; 64]
+    requires { Given field.now.degree m xs.now ys.now ring.now }
+    ensures weighs { Weighs field.now.degree m ring.now result }
     ensures result_len { length result ≡ 64 }
 {
     let n = ring.len();
     let mut leads = [0usize; 8];
     let mut slots = [0u8; 1024];
     solve(
-        table,
-        q,
+        field,
         m,
         xs,
         ys,
@@ -291,30 +217,21 @@ fn weights(table: &Table, q: u32, m: u32, xs: &[u8], ys: &[u8], ring: &[u8]) -> 
         &mut leads,
         &mut slots,
     );
-    let at = 2 * n * least(&leads, 2 * (q as usize)) + n;
+    let at = 2 * n * scan::least(&leads, 2 * (field.degree as usize)) + n;
     let mut used = [0u8; 64];
-    rows::store(&slots[at..at + n], &mut used, 0);
+    used[..n].copy_from_slice(&slots[at..at + n]);
     used
 }
 
 // The received symbols plus N + r·L of the first line after a run over the points at which used is not zero.
-fn answer_by(
-    table: &Table,
-    q: u32,
-    m: u32,
-    xs: &[u8],
-    ys: &[u8],
-    ring: &[u8],
-    used: &[u8],
-    out: &mut [u8],
-)
-    requires { Answering q m table.now xs.now ys.now ring.now used.now out.old }
-    ensures { out.new ≡ answer_over q m ring.now used.now }
+fn answer_by(field: &Field, m: u32, xs: &[u8], ys: &[u8], ring: &[u8], used: &[u8], out: &mut [u8])
+    requires { Answering field.now.degree m xs.now ys.now ring.now used.now out.old }
+    ensures { out.new ≡ answer_over field.now.degree m ring.now used.now }
 {
     let mut leads = [0usize; 8];
     let mut slots = [0u8; 1024];
-    solve(table, q, m, xs, ys, ring, used, &mut leads, &mut slots);
-    rows::store(ring, out, 0);
+    solve(field, m, xs, ys, ring, used, &mut leads, &mut slots);
+    out.copy_from_slice(ring);
     lists::add(&slots[..ring.len()], out, 0);
 }
 
@@ -324,18 +241,9 @@ pub fn answer(q: u32, m: u32, ys: &[u8], ring: &[u8], out: &mut [u8])
     ensures { out.new ≡ Model.answer q m ring.now }
 {
     let n = ring.len();
-    let table = tables::lend(q);
+    let field = Field::new(q);
     let xs = columns_twice(q, n);
     let ys = twice(ys);
-    let used = weights(&table, q, m, &xs[..2 * n], &ys[..2 * n], ring);
-    answer_by(
-        &table,
-        q,
-        m,
-        &xs[..2 * n],
-        &ys[..2 * n],
-        ring,
-        &used[..n],
-        out,
-    );
+    let used = weights(&field, m, &xs[..2 * n], &ys[..2 * n], ring);
+    answer_by(&field, m, &xs[..2 * n], &ys[..2 * n], ring, &used[..n], out);
 }

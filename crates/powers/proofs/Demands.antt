@@ -4,7 +4,7 @@
 --
 -- 'Nothing by halves.'
 --   refused_exactly     it is refused exactly when a check applies
---   refused_leaves      then its number is that of the first that does, and row, flags and working space are as lent
+--   refused_leaves      then the reason's number is that of the first that does, and row, flags and working space are as lent
 --   as_lent             unless the ending is 'corrected', row and flags are as lent
 --   space_cleared       unless it is refused, the first 49,152 bytes of the working space are zero, and those beyond are as lent
 --
@@ -30,6 +30,8 @@ use native.Mathlib.Omega.{arith}
 use lib.ListN.{length, get_or, take}
 use Rattle.refusal.specs.Refusal.{Check, first}
 use Rattle.refusal.specs.Meaning.{detail_of}
+use Rattle.refusal.specs.Numbers.{number}
+use Rattle.refusal.specs.declared.Refusal.{Refusal}
 use Rattle.refusal.proofs.Ladders.{first_upto}
 use Rattle.field.specs.Symbols.{IsSymbol, over}
 use Rattle.field.specs.Arithmetic.{gf}
@@ -116,34 +118,37 @@ module _ (d k s : ℕ) (xs fs : List ℕ) (τ : ℕ) (y : List ℕ) (lent : Buff
   abbrev Table : List ℕ → Ending → Buffers → Type 0
   Table z = PowerEnds d xs k s z τ lent
 
-  never : (k : ℕ) (b : Buffers) → ¬ Ended (Refused k) b
-  never = struck_never D y Table (λ k b t. t.ends)
-
-  pub refused_exactly : IsRefused ↔ ¬ (first checks ≡ 0)
-  refused_exactly = halves.refused_exactly checks lent space Ended never l h
+  never : (r : Refusal) (b : Buffers) → ¬ Ended (Refused r) b
+  never = struck_never D y Table (λ r b t. t.ends)
 
   number_upto : first checks ≤ 23
   number_upto = first_upto 23 checks refl
 
-  pub refused_leaves : (k : ℕ) → l.ending ≡ Refused k
-      → (k ≡ first checks) × (1 ≤ k) × (k ≤ 23) × (l.buffers ≡ lent) × (l.space ≡ space)
-  refused_leaves k e =
-      let (first, some, b, s) = halves.refused_leaves checks lent space Ended never l h k e in
+  in_table : first checks ≤ 26
+  in_table = omega (arith, number_upto)
+
+  pub refused_exactly : IsRefused ↔ ¬ (first checks ≡ 0)
+  refused_exactly = halves.refused_exactly checks lent space Ended in_table never l h
+
+  pub refused_leaves : (r : Refusal) → l.ending ≡ Refused r
+      → (number r ≡ first checks) × (1 ≤ number r) × (number r ≤ 23) × (l.buffers ≡ lent) × (l.space ≡ space)
+  refused_leaves r e =
+      let (first, some, b, s) = halves.refused_leaves checks lent space Ended in_table never l h r e in
       (first, some, omega (arith, number_upto), b, s)
 
   pub as_lent : ¬ IsCorrected → l.buffers ≡ lent
-  as_lent = halves.as_lent checks lent space Ended never l h
+  as_lent = halves.as_lent checks lent space Ended in_table never l h
       (struck_others D y Table lent (power_others lent))
 
   pub space_cleared : ¬ IsRefused
       → ((i : ℕ) → i < space_bytes → get_or l.space i 0 ≡ 0) × ((i : ℕ) → space_bytes ≤ i → get_or l.space i 0 ≡ get_or space i 0)
-  space_cleared = halves.space_cleared checks lent space Ended never l h
+  space_cleared = halves.space_cleared checks lent space Ended in_table never l h
 
-  ended_as : (e : Ending) → l.ending ≡ e → ((k : ℕ) → ¬ (e ≡ Refused k)) → (0 ≡ first checks) × Ended e l.buffers
-  ended_as = halves.ended_as checks lent space Ended never l h
+  ended_as : (e : Ending) → l.ending ≡ e → ((r : Refusal) → ¬ (e ≡ Refused r)) → (0 ≡ first checks) × Ended e l.buffers
+  ended_as = halves.ended_as checks lent space Ended in_table never l h
 
   corrected_as : (w : ℕ) → l.ending ≡ Corrected w → (0 ≡ first checks) × Ended (Corrected w) l.buffers
-  corrected_as w e = ended_as (Corrected w) e (λ k e. let z : ◌≡◌ {A = ℕ} 0 1 = cc in omega arith)
+  corrected_as w e = ended_as (Corrected w) e (λ r e. let z : ◌≡◌ {A = ℕ} 0 1 = cc in omega arith)
 
   -- ---- joint decoding of the power rows, with any buffers of the right lengths lent
 
@@ -168,7 +173,7 @@ module _ (d k s : ℕ) (xs fs : List ℕ) (τ : ℕ) (y : List ℕ) (lent : Buff
     -- an ending whatever buffers are lent
     relent : (lent lent' : Buffers) (e : Ending) (a : Buffers) → Ends code powers τ lent e a
         → (a' : Buffers) × Ends code powers τ lent' e a'
-    relent lent lent' (Refused k) a t = absurd t
+    relent lent lent' (Refused r) a t = absurd t
     relent lent lent' (Corrected w) a t = (a, t)
     relent lent lent' Nothing a t = (lent', (t.0, refl))
     relent lent lent' (Several w) a t = (lent', (t.0, t.1, refl))
@@ -233,7 +238,7 @@ module _ (d k s : ℕ) (xs fs : List ℕ) (τ : ℕ) (y : List ℕ) (lent : Buff
 
   pub none_far : l.ending ≡ Nothing → Far (CodeArrayBy D) (wrong_count row y) τ
   none_far e =
-      let (none, t) = ended_as Nothing e (λ k e. let z : ◌≡◌ {A = ℕ} 0 1 = cc in omega arith) in
+      let (none, t) = ended_as Nothing e (λ r e. let z : ◌≡◌ {A = ℕ} 0 1 = cc in omega arith) in
       let p = allowed none in
       let s = p.shape in
       far_struck D (row_proper s) p.factors (wrong_count row y) (wrong_count row z) (same_count none)
@@ -276,13 +281,13 @@ module _ (d k s : ℕ) (xs fs : List ℕ) (τ : ℕ) (y : List ℕ) (lent : Buff
     where
       go : τ ≤ joint_limit code → joint_limit code < columns code → columns code ≤ 96 → IsArray code powers → (e : Ending)
           → Ends code powers τ lent e b → detail_of (meaning e) < 256
-      go q s m i (Refused k) t = absurd t
+      go q s m i (Refused r) t = absurd t
       go q s m i (Corrected w) t = omega (arith, endings.corrected_within (allowed none).shape.proper i τ t)
       go q s m i Nothing t = omega arith
       go q s m i (Several w) t = omega (arith, t.0.within)
       go q s m i (Hollow w) t = omega (arith, t.0.within)
 
   pub detail_small : detail_of (meaning l.ending) < 256
-  detail_small = halves.by_number checks lent space Ended never l h
+  detail_small = halves.by_number checks lent space Ended in_table never l h
       (λ p t. small_by p l.ending t.0.ends.answer t.0.ends.ends)
-      (λ j p t. let e = ap (λ (r : Left). detail_of (meaning r.ending)) t in omega (arith, number_upto))
+      (λ r p t. let e = ap (λ (x : Left). detail_of (meaning x.ending)) t in omega (arith, number_upto))

@@ -12,6 +12,7 @@ use mathlib.Core.List.{List, [], ◌∷◌}
 use Prim.Native.Nat.{ℕ, ◌≤◌}
 use native.Mathlib.Omega.{arith}
 use lib.ListN.{length, take}
+use Rattle.refusal.specs.Numbers.{named}
 use Rattle.refusal.proofs.Keeping.{told}
 use Rattle.field.specs.Symbols.{times}
 use Rattle.codes.specs.Code.{Code, IsArray, joint_limit}
@@ -40,7 +41,7 @@ use Rattle.powers.proofs.Passed.{joint_passes}
 -- unless the ending is 'corrected', the buffers are as lent
 ends_others : (c : Code) (y : List ℕ) (τ : ℕ) (lent : Buffers) (e : Ending) (b : Buffers) → Ends c y τ lent e b
     → ((w : ℕ) → ¬ (e ≡ Corrected w)) → b ≡ lent
-ends_others c y τ lent (Refused k) b h n = absurd h
+ends_others c y τ lent (Refused r) b h n = absurd h
 ends_others c y τ lent (Corrected w) b h n = absurd (n w refl)
 ends_others c y τ lent Nothing b h n = h.1
 ends_others c y τ lent (Several t) b h n = h.2
@@ -81,7 +82,7 @@ module _ {d k s : ℕ} {xs : List ℕ} {τ : ℕ} {z a f w : List ℕ} (h : Read
   pub joint_ended : (l : Left) → Joint.Decodes (Joint.given (plain (power_code d xs k s)) τ (power_rows d s z) (buffers a f) w) l
       → Table l.ending l.buffers × (l.space ≡ cleared w)
   joint_ended l p = told (Mark.decode_checks (plain (power_code d xs k s)) τ (power_rows d s z) a f w)
-      (λ n. Joint.left (Refused n) (buffers a f) w) (λ l. Plain l.ending l.buffers × (l.space ≡ cleared w)) l p
+      (λ n. Joint.left (Refused (named n)) (buffers a f) w) (λ l. Plain l.ending l.buffers × (l.space ≡ cleared w)) l p
       (λ e (t, c). (
         (ones_struck (power_code d xs k s) h.shape.proper array (λ y. Ends (power_code d xs k s) y τ (buffers a f))
             (λ m b q. code_array h.shape.proper (corrected_code h.shape.proper array τ q)) l.ending l.buffers).0 t,
@@ -113,7 +114,7 @@ module _ (d k s : ℕ) (xs fs : List ℕ) (τ : ℕ) (y a f : List ℕ) {z : Lis
 
   ends_by : (e : Ending) → Powers (divided (description_of d xs fs (k ∷ [])) y) e → Back e
       → EndsAs d k s xs fs τ y (buffers a f) e (buffers a' f')
-  ends_by (Refused n) h back = absurd h
+  ends_by (Refused r) h back = absurd h
   ends_by (Corrected t) h back = record {
     answer = buffers (take (length xs) b') f';
     ends = record { answer = buffers b' f'; ends = h; back = refl };

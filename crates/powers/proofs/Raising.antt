@@ -6,6 +6,7 @@
 -- Assumes nothing.
 use mathlib.Core.Path.{◌≡◌, refl, sym, ap, ap₂, ◌∙◌}
 use mathlib.Core.List.{List, ◌++◌, flat_map}
+use mathlib.Core.Bool.{false}
 use Prim.Native.Nat.{ℕ, suc, ◌+◌, ◌-◌, ◌*◌, ◌≤◌, ◌<◌}
 use native.Mathlib.Nat.{suc-mul, zero-add}
 use native.Mathlib.Numerals.{add-one}
@@ -15,6 +16,7 @@ use lib.Seq.{ext_get_or, get_or-take, length-take-le}
 use Rattle.patch.specs.Parts.{lay}
 use Rattle.patch.proofs.Laws.{length-patch, get_or-patch_front}
 use Rattle.patch.proofs.Parts.{length-lay, lay_none, lay_behind, take-lay}
+use Rattle.refusal.specs.Refusal.{bad_degree}
 use Rattle.field.specs.Symbols.{IsSymbol, times, raised}
 use Rattle.field.specs.Arithmetic.{gf}
 use Rattle.field.proofs.Laws.{Field}
@@ -40,12 +42,12 @@ one_more : (d i m : ℕ) (z : List ℕ) {j : ℕ} → i ≡ j → power_row d i 
 unfolding up_from flat_map
 one_more d i m z e = ap (λ (j : ℕ). power_row d i z ++ power_rows_from d (suc j) m z) (sym e)
 
-module _ {d s : ℕ} {z l₀ : List ℕ} (g : Raising d s z l₀) where
+module _ {d s : ℕ} (good : bad_degree d ≡ false) {z l₀ : List ℕ} (g : Raising d s z l₀) where
   abbrev n : ℕ
   n = length z
 
   𝓕 : Field (gf d)
-  𝓕 = field d g.degree
+  𝓕 = field d good
 
   pub raised-first : (p₀ : List ℕ) {p : List ℕ} → length p₀ ≡ 96 → p ≡ lay 0 z p₀ → Raised d s z l₀ l₀ p 0 0
   raised-first p₀ {p} long is =
@@ -66,13 +68,6 @@ module _ {d s : ℕ} {z l₀ : List ℕ} (g : Raising d s z l₀) where
   module _ {l p : List ℕ} {at i : ℕ} (h : Raised d s z l₀ l p at i) (more : i < s) where
     left : s - i ≡ suc (s - (i + 1))
     left = omega arith
-
-    pub fits : at + n ≤ length l
-    fits = omega (arith, h.place, h.same, g.room, ap (λ (m : ℕ). m * n) left, suc-mul (s - (i + 1)) n)
-
-    -- the row that is stored
-    pub stored : length (take n p) ≡ n
-    stored = length-take-le n p (omega (arith, h.long, g.most))
 
     next_power : {p' : List ℕ} → p' ≡ multiplied_at d z 0 p 0 0 → take n p' ≡ power_row d (suc (i + 1)) z
     unfolding multiplied raised
@@ -108,8 +103,8 @@ module _ {d s : ℕ} {z l₀ : List ℕ} (g : Raising d s z l₀) where
             (omega (arith, ap length rows, length-rows d (suc i) (s - i) z, h.place, h.same, g.room))
             ∙ ap (λ (r : List ℕ). lay at r l) rows
 
-  pub raised_all : {l p : List ℕ} {at i : ℕ} → Raised d s z l₀ l p at i → ¬ (i < s) → l ≡ lay 0 (power_rows d s z) l₀
-  unfolding up_from flat_map
-  raised_all {l = l} {at = at} {i = i} h done =
-      let none : s - i ≡ 0 = omega (arith, h.within) in
-      sym (lay_none at l) ∙ ap (λ (m : ℕ). lay at (power_rows_from d (suc i) m z) l) (sym none) ∙ h.so_far_lem
+pub raised_all : {d s : ℕ} {z l₀ l p : List ℕ} {at i : ℕ} → Raised d s z l₀ l p at i → ¬ (i < s) → l ≡ lay 0 (power_rows d s z) l₀
+unfolding up_from flat_map
+raised_all {d} {s} {z} {l = l} {at = at} {i = i} h done =
+    let none : s - i ≡ 0 = omega (arith, h.within) in
+    sym (lay_none at l) ∙ ap (λ (m : ℕ). lay at (power_rows_from d (suc i) m z) l) (sym none) ∙ h.so_far_lem

@@ -8,7 +8,6 @@
 --   Giving e d fs z a      on 'corrected', a row z that is to be struck with the factors fs, and room for it
 use Rattle.std.specs.Prelude.{◌≡◌, false, ℕ, ◌*◌, ◌≤◌, length}
 use mathlib.Core.List.{List, flat_map}
-use Rattle.refusal.specs.Refusal.{bad_degree}
 use Rattle.field.specs.Symbols.{IsSymbol}
 use Rattle.field.specs.Arithmetic.{Arithmetic}
 use Rattle.poly.specs.Poly.{All}
@@ -38,7 +37,6 @@ pub record Shape (d : ℕ) (xs : List ℕ) (k s : ℕ) : Type 0 where
   pub proper : Proper (power_code d xs k s)
 
 pub record Raising (d s : ℕ) (z l : List ℕ) : Type 0 where
-  pub degree : bad_degree d ≡ false
   pub symbols : All (IsSymbol d) z
   pub most : length z ≤ 96
   pub room : s * length z ≤ length l

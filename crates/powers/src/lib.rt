@@ -5,7 +5,6 @@ ghost use Rattle.std.specs.Prelude.{◌≡◌, List, ℕ};
 ghost use Rattle.patch.specs.Parts.{lay};
 ghost use Rattle.refusal.specs.Refusal.{first};
 ghost use Rattle.field.specs.Symbols.{times};
-ghost use Rattle.field.specs.Working.Tables.{IsTable};
 ghost use Rattle.codes.specs.Factors.{with_factors};
 ghost use Rattle.ending.specs.Endings.{Ends};
 ghost use Rattle.finish.specs.Working.{released};
@@ -17,27 +16,24 @@ ghost use Rattle.powers.specs.Working.{Giving, Raising, Ready};
 
 use array_checks::SPACE;
 use ending::Ending;
-use field::tables;
-use field::tables::Table;
+use field::Field;
 
 // Writes the powers of a row, from the first on, one after the other at the front of rows.
-fn raise(table: &Table, degree: u32, powers: usize, row: &[u8], rows: &mut [u8])
-    requires { Raising degree powers row.now rows.old × IsTable degree table.now }
-    ensures { rows.new ≡ lay 0 (power_rows degree powers row.now) rows.old }
+fn raise(field: &Field, powers: usize, row: &[u8], rows: &mut [u8])
+    requires { Raising field.now.degree powers row.now rows.old }
+    ensures { rows.new ≡ lay 0 (power_rows field.now.degree powers row.now) rows.old }
 {
     let mut power = [0u8; 96];
     rows::store(row, &mut power, 0);
     let mut at = 0;
-    let mut i = 0;
-    while i < powers {
+    for _ in 0..powers {
         rows::store(&power[..row.len()], rows, at);
-        lists::multiply(table, degree, row, 0, &mut power, 0, 0);
+        lists::multiply(field, row, 0, &mut power, 0, 0);
         at += row.len();
-        i += 1;
     }
 }
 
-// Decodes the powers of a row jointly, with factors of one; the answer of all rows is own. The field's table is worked out once for both.
+// Decodes the powers of a row jointly, with factors of one; the answer of all rows is own. The field is worked out once for both.
 fn decode_rows(
     degree: u32,
     k: u32,
@@ -54,14 +50,13 @@ fn decode_rows(
         (buffers own.old flags.old) result (buffers own.new flags.new)
         × (space.new ≡ cleared space.old) }
 {
-    let table = tables::lend(degree);
+    let field = Field::new(degree);
     let ks = power_checks::lengths(k, powers);
     let ones = [1u8; 96];
     let mut rows = [0u8; 384];
-    raise(&table, degree, powers as usize, row, &mut rows);
+    raise(&field, powers as usize, row, &mut rows);
     let ending = joint::decode_struck(
-        &table,
-        degree,
+        &field,
         &ks[..powers as usize],
         points,
         &row[..0],
@@ -85,15 +80,9 @@ fn give(ending: Ending, degree: u32, factors: &[u8], row: &[u8], answer: &mut [u
         ≡ released ending (buffers (with_factors (times degree) factors.now 1 row.now) f)
         (buffers answer.old f) }
 {
-    match ending {
-        Ending::Refused(_) => {}
-        Ending::Corrected(_) => {
-            patch::copy(row, answer);
-            factors::multiply(degree, factors, 1, answer);
-        }
-        Ending::Nothing => {}
-        Ending::Several(_) => {}
-        Ending::Hollow(_) => {}
+    if let Ending::Corrected(_) = ending {
+        patch::copy(row, answer);
+        factors::multiply(degree, factors, 1, answer);
     }
 }
 
@@ -158,7 +147,7 @@ pub fn decode(
         (buffers answer.old flags.old) space.old
         (left result (buffers answer.new flags.new) space.new) }
 {
-    let refused = power_checks::decode_refusal(
+    if let Err(refused) = power_checks::decode_refusal(
         degree,
         k,
         powers,
@@ -169,8 +158,7 @@ pub fn decode(
         answer.len(),
         flags.len(),
         space.len(),
-    );
-    if refused != 0 {
+    ) {
         return Ending::Refused(refused);
     }
     work(

@@ -1,10 +1,10 @@
-// Reading a whole buffer.
+// Reading a whole buffer, or a whole frame.
 #![tactic(auto)]
 
 #[cfg(test)]
 mod tests;
 
-ghost use Rattle.std.specs.Prelude.{◌≡◌, ◌<◌, IfOk, length, take};
+ghost use Rattle.std.specs.Prelude.{◌≡◌, ◌<◌, List, ℕ, IfOk, MatchOption, length, take};
 ghost use Rattle.std.specs.Io.{ReadsAtMost};
 ghost use Rattle.std.specs.Io.KnownBytes.{Consumes, IsAtEnd};
 
@@ -32,4 +32,18 @@ pub fn read_full<R: Read>(input: &mut R, buf: &mut [u8]) -> io::Result<usize>
         }
     }
     Err(Error::from(ErrorKind::Interrupted))
+}
+
+// Reads the next frame, and answers none where the input ends before it is whole; what was left is read then, less than a frame.
+pub fn read_frame<R: Read, const N: usize>(input: &mut R) -> io::Result<Option<[u8; N]>>
+    ensures { IfOk result (λ next. MatchOption next
+        ((part : List ℕ) × (length part < N) × Consumes (R.remaining input.old) (R.remaining input.new) part
+        × IsAtEnd (R.remaining input.new))
+        (λ frame. Consumes (R.remaining input.old) (R.remaining input.new) frame)) }
+{
+    let mut frame = [0; N];
+    if read_full(input, &mut frame)? < N {
+        return Ok(None);
+    }
+    Ok(Some(frame))
 }

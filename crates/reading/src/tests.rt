@@ -1,4 +1,4 @@
-use crate::read_full;
+use crate::{read_frame, read_full};
 use std::io;
 use std::io::{Error, ErrorKind, Read};
 
@@ -63,4 +63,13 @@ fn a_failed_read(rt: HostRuntime) {
     let mut buf = [0u8; 3];
     let failed = read_full(&mut Broken, &mut buf);
     assert!(rt; failed.is_err_and(|e| e.kind() == ErrorKind::TimedOut));
+}
+
+#[test]
+fn a_whole_frame_and_a_part(rt: HostRuntime) {
+    let mut input: &[u8] = b"abcde";
+    let first = read_frame(&mut input);
+    assert!(rt; first.is_ok_and(|frame| frame == Some([97, 98, 99])));
+    let second = read_frame::<_, 3>(&mut input);
+    assert!(rt; second.is_ok_and(|frame| frame.is_none()));
 }

@@ -13,8 +13,13 @@ use native.Mathlib.Omega.{arith}
 use lib.ListN.{length}
 use Rattle.refusal.specs.Keeping.{Keeps}
 use Rattle.refusal.specs.Meaning.{Meaning, number_of, detail_of}
-use Rattle.refusal.proofs.Keeping.{refuses, does}
+use Rattle.refusal.specs.Numbers as reasons
+use Rattle.refusal.specs.declared.Refusal.{Refusal}
+use Rattle.refusal.proofs.Keeping.{does}
+use Rattle.refusal.proofs.Numbers.{refused_as}
+use Rattle.ending.specs.declared.Ending.TheVariants.{Refused}
 use Rattle.record.specs.Records.{stop_checks, stop_of}
+use Rattle.record.specs.Lines.{line_of}
 use Rattle.record.specs.Promises.{LineOf, record_in, fresh, refused_line, meaning, laid, Answers}
 use Rattle.record.specs.Working.{Puts}
 use Rattle.record.specs.declared.Reply.{Reply}
@@ -47,12 +52,13 @@ module _ (number : ℕ) (lent : List ℕ) where
   abbrev pub stopped : ℕ → Meaning × List ℕ
   stopped k = laid 1 (refused_line number k) lent
 
-  pub answers_stop : (b : List ℕ) (k : ℕ) {left : List ℕ} {r : ℕ} → (length b ≡ 0 → ⊥) → k ≡ stop_of b → (k ≡ 0 → ⊥)
-      → Puts lent 0 (refused_line number k) left r → Answers number b lent (Last r) left
+  pub answers_stop : (b : List ℕ) (s : Refusal) {left : List ℕ} {r : ℕ} → (length b ≡ 0 → ⊥) → reasons.number s ≡ stop_of b
+      → Puts lent 0 (line_of number (Refused s) []) left r → Answers number b lent (Last r) left
   unfolding stop_of
-  answers_stop [] k h e z p = absurd (h refl)
-  answers_stop (x ∷ b) k h e z p = subst (Keeps (stop_checks (x ∷ b)) stopped (Line (x ∷ b))) (put_is 1 (refused_line number k) p)
-      (refuses (stop_checks (x ∷ b)) stopped (Line (x ∷ b)) e z)
+  answers_stop [] s h e p = absurd (h refl)
+  answers_stop (x ∷ b) s h e p =
+      subst (Keeps (stop_checks (x ∷ b)) stopped (Line (x ∷ b))) (put_is 1 (line_of number (Refused s) []) p)
+      (refused_as (stop_checks (x ∷ b)) (λ s. laid 1 (line_of number (Refused s) []) lent) (Line (x ∷ b)) s e)
 
   pub answers_next : (b line : List ℕ) {left : List ℕ} {r : ℕ} → (length b ≡ 0 → ⊥) → stop_of b ≡ 0
       → LineOf number (record_in fresh b) line → Puts lent 0 line left r → Answers number b lent (Next r) left

@@ -27,7 +27,7 @@ decimal n = decimal_by n n
 
 -- 'the ending's word'
 abbrev pub word : Ending → List ℕ
-word (Refused k) = ascii "refused"
+word (Refused r) = ascii "refused"
 word (Corrected w) = ascii "corrected"
 word Nothing = ascii "none"
 word (Several t) = ascii "several"

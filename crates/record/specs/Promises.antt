@@ -10,6 +10,7 @@ use Rattle.std.specs.Prelude.{◌≡◌, List, [], ◌∷◌, ◌++◌, ℕ, suc
 use Rattle.patch.specs.Parts.{lay}
 use Rattle.refusal.specs.Keeping.{Keeps}
 use Rattle.refusal.specs.Meaning.{Meaning}
+use Rattle.refusal.specs.Numbers.{named}
 use Rattle.codes.specs.Checks.{space_bytes}
 use Rattle.ending.specs.declared.Ending.{Ending}
 use Rattle.ending.specs.declared.Ending.TheVariants.{Refused}
@@ -39,7 +40,7 @@ fresh = replicate space_bytes 0
 
 -- 'A refusal is `refused`, its number and `-`.'
 abbrev pub refused_line : ℕ → ℕ → List ℕ
-refused_line number k = line_of number (Refused k) []
+refused_line number k = line_of number (Refused (named k)) []
 
 -- a reply has no number in 01: 0 nothing is left; 1 a line of so many bytes, after which reading stops; 2 one after which it goes on
 abbrev pub meaning : Reply → Meaning

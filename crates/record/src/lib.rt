@@ -10,7 +10,7 @@ ghost use Rattle.record.specs.Records.{AtMost, wanted};
 ghost use Rattle.record.specs.Promises.{Answers, meaning, record_in};
 ghost use Rattle.record.specs.Working.{Decodable, Decoded, Lined, Written};
 
-use array_checks::{SPACE, wide};
+use array_checks::SPACE;
 use ending::Ending;
 
 // The answer to what is left of the input: nothing is left; a line, after which reading stops; a line, after which it goes on.
@@ -46,8 +46,8 @@ pub fn decode(bytes: &[u8], array: &mut [u8], flags: &mut [u8], space: &mut [u8]
     requires { Decodable bytes.now array.old flags.old }
     ensures { Decoded space.old bytes.now result array.new flags.new }
 {
-    let r = wide(bytes[3]);
-    let n = wide(bytes[4]);
+    let r = usize::from(bytes[3]);
+    let n = usize::from(bytes[4]);
     let points = 6 + r;
     let symbols = points + n;
     let ones = [1u8; 96];
@@ -69,7 +69,7 @@ fn decode_line(number: u64, bytes: &[u8], out: &mut [u8], space: &mut [u8]) -> u
     requires { Lined bytes.now out.old }
     ensures { Written number (record_in space.old bytes.now) out.old out.new result }
 {
-    let n = wide(bytes[4]);
+    let n = usize::from(bytes[4]);
     let mut array = [0u8; 384];
     let mut flags = [0u8; 96];
     let ending = decode(bytes, &mut array, &mut flags, space);
@@ -82,12 +82,11 @@ pub fn answer(number: u64, bytes: &[u8], out: &mut [u8; 323]) -> Reply
     ensures answers { Answers number bytes.now out.old result out.new }
     ensures prefix_len { Counts (detail_of (meaning result)) out.new }
 {
-    if bytes.len() == 0 {
+    if bytes.is_empty() {
         return Reply::End;
     }
-    let k = parts::stop(bytes);
-    if k != 0 {
-        return Reply::Last(text::put_line(out, number, Ending::Refused(k), &bytes[..0]));
+    if let Err(refused) = parts::stop(bytes) {
+        return Reply::Last(text::put_line(out, number, Ending::Refused(refused), &[]));
     }
     let mut space = [0u8; SPACE];
     Reply::Next(decode_line(number, bytes, out, &mut space))

@@ -2,8 +2,9 @@
 ghost use Rattle.std.specs.Prelude.{◌≡◌, ◌≤◌, length};
 ghost use Rattle.record.specs.Records.{AtMost, no_mark, out_of_range, size_in, stop_of};
 ghost use Rattle.record.specs.Working.{Headed};
+ghost use Rattle.refusal.specs.Numbers.{refused};
 
-use array_checks::wide;
+use refusal::Refusal;
 
 // The two bytes that a record begins with, 42 4D.
 pub const MARK: [u8; 2] = *b"BM";
@@ -26,10 +27,10 @@ pub(crate) fn out_of_range(bytes: &[u8]) -> bool
     requires { 5 ≤ length bytes.now }
     ensures { result ≡ out_of_range bytes.now }
 {
-    if refusal::outside(1, 4, wide(bytes[3])) {
+    if refusal::outside(1, 4, usize::from(bytes[3])) {
         return true;
     }
-    refusal::outside(1, 96, wide(bytes[4]))
+    refusal::outside(1, 96, usize::from(bytes[4]))
 }
 
 // How many bytes the record has.
@@ -37,32 +38,32 @@ pub fn size(bytes: &[u8]) -> usize
     requires { Headed bytes.now }
     ensures { AtMost 490 (size_in bytes.now) result }
 {
-    let rows = wide(bytes[3]);
-    let columns = wide(bytes[4]);
+    let rows = usize::from(bytes[3]);
+    let columns = usize::from(bytes[4]);
     6 + rows + columns + rows * columns
 }
 
-// The number of the first reason to stop that applies, 0 where none does.
-pub fn stop(bytes: &[u8]) -> u8
-    ensures { result ≡ stop_of bytes.now }
+// The first reason to stop that applies.
+pub fn stop(bytes: &[u8]) -> Result<(), Refusal>
+    ensures { refused result ≡ stop_of bytes.now }
 {
     if no_mark(bytes) {
-        return 12;
+        return Err(Refusal::NoRecordMark);
     }
     if bytes.len() < 5 {
-        return 13;
+        return Err(Refusal::CutShort);
     }
     if out_of_range(bytes) & refusal::bad_degree(bytes[2] as u32) {
-        return 1;
+        return Err(Refusal::Degree);
     }
-    if refusal::outside(1, 4, wide(bytes[3])) {
-        return 2;
+    if refusal::outside(1, 4, usize::from(bytes[3])) {
+        return Err(Refusal::Rows);
     }
-    if refusal::outside(1, 96, wide(bytes[4])) {
-        return 3;
+    if refusal::outside(1, 96, usize::from(bytes[4])) {
+        return Err(Refusal::Columns);
     }
     if bytes.len() < size(bytes) {
-        return 13;
+        return Err(Refusal::CutShort);
     }
-    0
+    Ok(())
 }

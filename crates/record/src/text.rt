@@ -39,11 +39,8 @@ fn put_wrong(out: &mut [u8], at: usize, flags: &[u8]) -> usize
 {
     let mut end = at;
     let mut gap = b' ';
-    let mut i = 0;
-    while i < flags.len() {
-        let column = i;
-        i += 1;
-        if flags[column] != 0 {
+    for (column, flag) in flags.iter().enumerate() {
+        if *flag != 0 {
             end = put_column(out, end, gap, column);
             gap = b',';
         }
@@ -69,7 +66,7 @@ fn put_field(out: &mut [u8], at: usize, text: &[u8], n: u8) -> usize
     ensures { PutsField out.old at text.now n out.new result }
 {
     let end = put_text(out, at, text);
-    put_number(out, end, n as u64)
+    put_number(out, end, u64::from(n))
 }
 
 // Writes the fields of an ending, each behind a space: at most 11 bytes of a word, 3 of a detail and 3 for each column.
@@ -78,8 +75,8 @@ fn put_ending(out: &mut [u8], at: usize, ending: Ending, flags: &[u8]) -> usize
     ensures { PutsWithin 302 out.old at (fields_of ending flags.now) out.new result }
 {
     match ending {
-        Ending::Refused(k) => {
-            let end = put_field(out, at, b" refused ", k);
+        Ending::Refused(refused) => {
+            let end = put_field(out, at, b" refused ", refused.number());
             put_text(out, end, b" -")
         }
         Ending::Corrected(w) => {

@@ -70,7 +70,7 @@ abbrev pub upto : ℕ → List Check → Bool
 upto m [] = true
 upto m ((k when b) ∷ cs) = leb k m && upto m cs
 
-both : (a b : Bool) → (a && b) ≡ true → (a ≡ true) × (b ≡ true)
+pub both : (a b : Bool) → (a && b) ≡ true → (a ≡ true) × (b ≡ true)
 both true b e = (refl, e)
 both false b e = absurd (true≢false (sym e))
 

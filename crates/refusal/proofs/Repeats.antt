@@ -4,6 +4,7 @@
 --   stands_not    what differs from every entry is not
 --   repeats       a list with two equal entries has a repeat
 --   repeats_not   a list whose entries differ from all the earlier ones has none
+--   Fresh l i j   entry i is none of the first j
 -- Assumes nothing.
 use mathlib.Core.Path.{◌≡◌, refl}
 use mathlib.Core.Bool.{true, false, or-true}
@@ -40,3 +41,6 @@ repeats_not (a ∷ l) h =
       stands_not a l (λ i b. h (suc i) (omega arith) 0 (omega arith)),
       repeats_not l (λ i b j o. h (suc i) (omega arith) (suc j) (omega arith)),
     )
+
+abbrev pub Fresh : List ℕ → ℕ → ℕ → Type 0
+Fresh l i j = (k : ℕ) → k < j → get_or l k 0 ≡ get_or l i 0 → ⊥

@@ -1,3 +1,4 @@
 pub mod Refusal
 pub mod Keeping
 pub mod Meaning
+pub mod Numbers

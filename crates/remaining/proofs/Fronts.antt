@@ -2,16 +2,21 @@
 --
 --   merged-count, fill_count    there is one for each column
 --   lost_front, same_front      those of the lost columns, and twos, at the front
+--   lost_next                   one lost column more, behind the others, is one flag set
 -- Assumes nothing.
-use mathlib.Core.Path.{◌≡◌, refl, ap, ◌∙◌}
-use mathlib.Core.Bool.{Bool}
-use mathlib.Core.List.{List, ◌∷◌}
-use Prim.Native.Nat.{ℕ, zero, suc, ◌≤◌}
+use mathlib.Core.Path.{◌≡◌, refl, sym, ap, ◌∙◌}
+use mathlib.Core.Bool.{Bool, true, false, ◌||◌}
+use mathlib.Core.List.{List, [], ◌∷◌, ◌++◌}
+use Prim.Native.Nat.{ℕ, zero, suc, ◌+◌, ◌≤◌, ◌<◌}
 use native.Mathlib.Omega.{arith}
-use lib.ListN.{length, take, replicate, length-replicate}
+use lib.ListN.{length, get_or, set, take, replicate, length-replicate}
+use lib.Dec.{eqb}
+use Rattle.std.proofs.lemmas.List.{take_more}
 use Rattle.refusal.specs.Refusal.{is_in}
 use Rattle.codes.specs.Code.{flag, flags_from}
 use Rattle.codes.specs.Lost.{lost_flags}
+use Rattle.codes.proofs.Flags.{flags_same}
+use Rattle.codes.proofs.Lost.{lost_more}
 use Rattle.finish.specs.Working.{zeros_in}
 use Rattle.finish.proofs.Marks.{zeros-count, put_count}
 use Rattle.remaining.specs.Working.{merged, to_fill}
@@ -39,3 +44,23 @@ pub same_front : (a n m : ℕ) → n ≤ m → take n (replicate m a) ≡ replic
 same_front a zero m h = refl
 same_front a (suc n) zero h = absurd (omega arith)
 same_front a (suc n) (suc m) h = ap (◌∷◌ a) (same_front a n m (omega arith))
+
+-- one lost column after the other
+
+or_swap : (a b c : Bool) → (a || (b || c)) ≡ (b || (a || c))
+or_swap true true c = refl
+or_swap true false c = refl
+or_swap false b c = refl
+
+is_in_last : (i j : ℕ) (L : List ℕ) → is_in i (L ++ (j ∷ [])) ≡ is_in i (j ∷ L)
+unfolding is_in
+is_in_last i j [] = refl
+is_in_last i j (a ∷ L) = ap (λ (b : Bool). eqb i a || b) (is_in_last i j L) ∙ or_swap (eqb i a) (eqb i j) (is_in i L)
+
+pub lost_next : (n : ℕ) (L : List ℕ) (l : ℕ) → l < length L → get_or L l 0 < n
+    → set (lost_flags n (take l L)) (get_or L l 0) 1 ≡ lost_flags n (take (l + 1) L)
+lost_next n L l h below =
+    let j = get_or L l 0 in
+    lost_more n j (take l L) below
+    ∙ flags_same (λ i. is_in i (j ∷ take l L)) (λ i. is_in i (take (l + 1) L)) n
+    (λ i q. sym (rw (take_more L l 0 h) (is_in_last i j (take l L))))

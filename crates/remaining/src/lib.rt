@@ -12,8 +12,7 @@ ghost use Rattle.ending.proofs.Model.{filled};
 ghost use Rattle.finish.specs.Working.{zeros_in};
 ghost use Rattle.remaining.specs.Working.{merged, to_fill};
 
-use array_checks::wide;
-use field::tables;
+use field::Field;
 
 // For the crates above: the flags of 96 columns, 1 where the column is lost.
 pub fn lost_flags(lost: &[u8]) -> [u8; 96]
@@ -21,10 +20,8 @@ pub fn lost_flags(lost: &[u8]) -> [u8; 96]
     ensures { result ≡ lost_flags 96 lost.now }
 {
     let mut gone = [0u8; 96];
-    let mut i = lost.len();
-    while 0 < i {
-        i -= 1;
-        gone[wide(lost[i])] = 1;
+    for l in lost {
+        gone[usize::from(*l)] = 1;
     }
     gone
 }
@@ -38,12 +35,9 @@ pub fn gather_rows(gone: &[u8], lengths: &[u8], received: &[u8], s: &mut [u8])
 {
     let mut from = 0;
     let mut at = 0;
-    let mut l = 0;
-    while l < lengths.len() {
-        let n = finish::gather(gone, &received[from..from + gone.len()], &mut s[at..]);
+    for _ in 0..lengths.len() {
+        at += finish::gather(gone, &received[from..from + gone.len()], &mut s[at..]);
         from += gone.len();
-        at += n;
-        l += 1;
     }
 }
 
@@ -61,28 +55,26 @@ fn merge_flags(lost: &[u8], wrong: &[u8], n: usize) -> [u8; 96]
 
 // The received array with every column filled in whose flag is not zero, at the front of s.
 fn fill_flagged(
-    degree: u32,
+    field: &Field,
     lengths: &[u8],
     points: &[u8],
     flags: &[u8],
     received: &[u8],
     s: &mut [u8],
 )
-    requires ready { Ready (code_of degree points.now lengths.now) received.now }
+    requires ready { Ready (code_of field.now.degree points.now lengths.now) received.now }
     requires s_len { length s.old ≡ most_cells }
     requires flags_len { (length flags.now ≡ length points.now) × Room (length points.now) (total (to_fill flags.now)) lengths.now }
     ensures { s.new
-        ≡ lay 0 (filled (code_of degree points.now lengths.now) received.now (to_fill flags.now))
+        ≡ lay 0 (filled (code_of field.now.degree points.now lengths.now) received.now (to_fill flags.now))
         s.old }
 {
-    let table = tables::lend(degree);
     let mut stay = [0u8; 96];
     let mut fill = [0u8; 96];
     finish::flag_zeros(flags, &mut stay);
     finish::flag_zeros(&stay[..points.len()], &mut fill);
     finish::fill(
-        &table,
-        degree,
+        field,
         lengths,
         points,
         &fill[..points.len()],
@@ -94,7 +86,7 @@ fn fill_flagged(
 
 // For the crates above: writes the answer and its flags, lost and wrong columns filled in, and the flags of all.
 pub fn complete(
-    degree: u32,
+    field: &Field,
     lengths: &[u8],
     points: &[u8],
     lost: &[u8],
@@ -103,19 +95,19 @@ pub fn complete(
     answer: &mut [u8],
     flags: &mut [u8],
 )
-    requires ready { Ready (code_of degree points.now lengths.now) received.now }
+    requires ready { Ready (code_of field.now.degree points.now lengths.now) received.now }
     requires all { All (λ (i : ℕ). i < length points.now) lost.now }
     requires wrong_len { (length wrong.now ≡ total (zeros_in (lost_flags (length points.now) lost.now)))
         × Room (length points.now) (total (to_fill (merged (lost_flags (length points.now) lost.now) wrong.now))) lengths.now }
     requires answer_len { (length answer.old ≡ length received.now) × (length flags.old ≡ length points.now) }
-    ensures { (answer.new ≡ filled (code_of degree points.now lengths.now) received.now
+    ensures { (answer.new ≡ filled (code_of field.now.degree points.now lengths.now) received.now
         (to_fill (merged (lost_flags (length points.now) lost.now) wrong.now)))
         × (flags.new ≡ merged (lost_flags (length points.now) lost.now) wrong.now) }
 {
     let marks = merge_flags(lost, wrong, points.len());
     let mut own = [0u8; 384];
     fill_flagged(
-        degree,
+        field,
         lengths,
         points,
         &marks[..points.len()],

@@ -22,14 +22,14 @@ use Rattle.refusal.proofs.Ladders.{clear}
 use Rattle.poly.specs.Poly.{All}
 use Rattle.codes.specs.Code.{total, up_from}
 use Rattle.codes.proofs.Passed.{right-length}
-use Rattle.mark.specs.declared.Outcome.{Outcome}
-use Rattle.mark.proofs.Handed.{handed, handed_by}
+use Rattle.mark.specs.Promises.{Outcome}
+use Rattle.mark.proofs.Handing.{handed, handed_by}
 use Rattle.report.specs.Report.{Mark, is_corrected, wrong_at, wrong_in, figures, open_checks, bad_mark, enter_checks}
 use Rattle.report.specs.Report.{Next, Enters, taken, Came, opened, entered, Made}
 use Rattle.report.specs.Ranking.{corrected}
 use Rattle.report.specs.Working.{Adding, added}
 use Rattle.report.specs.declared.Report.{Report}
-use Rattle.report.specs.declared.Entered.{Entered}
+use Rattle.mark.specs.declared.Handed.{Handed}
 use Rattle.report.proofs.Figures.{place_most, count_most, wrong_flags_most, ended_with, wrong_of, Enterable, added-figures}
 
 -- ---- what the checks leave
@@ -93,9 +93,9 @@ of : {ms : List Mark} {r : Report} → Came ms r → Of ms r
 of (opened n o h) = handed (open_checks n) (λ e. e ≡ figures n []) (figures 1 []) _ h
     (λ none is. let n-in = within 1 96 n (clear 2 _ _ none).0 in subst (Of []) (sym is) (none_held n n-in.0 n-in.1))
     (λ is. subst (Of []) (sym is) (none_held 1 (omega arith) (omega arith)))
-of (entered ms r m e came h) = handed_by (enter_checks r m) (Next r m) r e.outcome e.report h
-    (λ none done next. subst (λ (o : Outcome). Of (taken o m ms) e.report) (sym done) (more_held ms r e.report m (of came) none next))
-    (λ k stopped same. subst (λ (o : Outcome). Of (taken o m ms) e.report) (sym stopped) (subst (Of ms) (sym same) (of came)))
+of (entered ms r m e came h) = handed_by (enter_checks r m) (Next r m) r e.outcome e.next h
+    (λ none done next. subst (λ (o : Outcome). Of (taken o m ms) e.next) (sym done) (more_held ms r e.next m (of came) none next))
+    (λ k stopped same. subst (λ (o : Outcome). Of (taken o m ms) e.next) (sym stopped) (subst (Of ms) (sym same) (of came)))
 
 pub figures_of : {ms : List Mark} {r : Report} → Came ms r → r ≡ figures r.columns ms
 figures_of came = (of came).0
@@ -151,5 +151,5 @@ next {r} {e} m (ms, came) none is =
           ∙ added-figures r.columns ms m (held_of came).most_columns (passed r m none).1,
     )
 
-pub made_entered : {r : Report} (m : Mark) (e : Entered) → Made r → Enters r m e → Made e.report
+pub made_entered : {r : Report} (m : Mark) (e : Handed Report) → Made r → Enters r m e → Made e.next
 made_entered {r} m e (ms, came) h = (taken e.outcome m ms, entered ms r m e came h)

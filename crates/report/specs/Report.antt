@@ -10,16 +10,13 @@
 --   Next r m e           e is the report on the marks of r and on m; Enters r m e, entering m hands back e
 --   taken o m ms         the marks ms, and m before them unless the outcome o is a refusal
 --   Came ms r            r came from opening and entering, and ms are the marks taken, the last one first; Made r, it came so
-use Rattle.std.specs.Prelude.{◌≡◌, Bool, cond, not, ◌&&◌, ◌||◌, List, [], ◌∷◌, map, ℕ, ◌+◌, eqb, leb, ltb, length, get_or}
+use Rattle.std.specs.Prelude.{◌≡◌, Bool, cond, not, ◌&&◌, ◌||◌, List, [], ◌∷◌, map, ℕ, ◌+◌, eqb, leb, ltb, length, get_or, Ok, Err}
 use Rattle.refusal.specs.Refusal.{Check, ◌when◌, outside, some_outside}
 use Rattle.codes.specs.Code.{total, largest, flag, up_from}
 use Rattle.codes.specs.Checks.{wrong_length}
-use Rattle.mark.specs.Promises.{meaning, Hands}
-use Rattle.mark.specs.declared.Outcome.{Outcome}
-use Rattle.mark.specs.declared.Outcome.TheVariants.{Done, Refused}
+use Rattle.mark.specs.Promises.{Outcome, meaning, Hands}
 use Rattle.report.specs.declared.Report.{Report}
-use Rattle.report.specs.declared.Opened.{Opened}
-use Rattle.report.specs.declared.Entered.{Entered}
+use Rattle.mark.specs.declared.Handed.{Handed}
 
 pub record Mark : Type 0 where
   pub ending : ℕ
@@ -62,8 +59,8 @@ abbrev pub open_checks : ℕ → List Check
 open_checks n = (3 when outside 1 96 n) ∷ []
 
 -- 'a refused opening hands over, beside the number, an empty report for n of 1'
-abbrev pub Opens : ℕ → Opened → Type 0
-Opens n r = Hands (open_checks n) (λ e. e ≡ figures n []) (figures 1 []) (meaning r.outcome, r.report)
+abbrev pub Opens : ℕ → Handed Report → Type 0
+Opens n r = Hands (open_checks n) (λ e. e ≡ figures n []) (figures 1 []) (meaning r.outcome, r.next)
 
 -- 'an ending code above 4, or a corrected mark with a flag above 2 or whose flags of 1 do not number its detail'
 abbrev pub bad_mark : Mark → Bool
@@ -81,16 +78,16 @@ abbrev pub Next : Report → Mark → Report → Type 0
 Next r m e = (ms : List Mark) × (r ≡ figures r.columns ms) × (e ≡ figures r.columns (m ∷ ms))
 
 -- 'the report staying as it was'
-abbrev pub Enters : Report → Mark → Entered → Type 0
-Enters r m e = Hands (enter_checks r m) (Next r m) r (meaning e.outcome, e.report)
+abbrev pub Enters : Report → Mark → Handed Report → Type 0
+Enters r m e = Hands (enter_checks r m) (Next r m) r (meaning e.outcome, e.next)
 
 abbrev pub taken : Outcome → Mark → List Mark → List Mark
-taken Done m ms = m ∷ ms
-taken (Refused k) m ms = ms
+taken (Ok _) m ms = m ∷ ms
+taken (Err _) m ms = ms
 
 pub data Came : List Mark → Report → Type 0 where
-  opened : (n : ℕ) (r : Opened) → Opens n r → Came [] r.report
-  entered : (ms : List Mark) (r : Report) (m : Mark) (e : Entered) → Came ms r → Enters r m e → Came (taken e.outcome m ms) e.report
+  opened : (n : ℕ) (r : Handed Report) → Opens n r → Came [] r.next
+  entered : (ms : List Mark) (r : Report) (m : Mark) (e : Handed Report) → Came ms r → Enters r m e → Came (taken e.outcome m ms) e.next
 
 -- 'That a report came from opening and entering is the one premise that a report call may have.'
 abbrev pub Made : Report → Type 0

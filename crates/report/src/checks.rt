@@ -1,9 +1,11 @@
 // The checks of entering a mark, in order.
 ghost use Rattle.std.specs.Prelude.{◌≡◌};
 ghost use Rattle.refusal.specs.Refusal.{first};
+ghost use Rattle.refusal.specs.Numbers.{refused};
 ghost use Rattle.report.specs.Report.{bad_mark, enter_checks, mark_of};
 
 use crate::{Report, counts};
+use refusal::Refusal;
 
 // Number 26 applies: the ending's code is above 4, or the mark is corrected, and a flag is above 2 or the flags of 1 do not number
 // its detail.
@@ -22,18 +24,23 @@ fn bad_mark(ending: usize, detail: usize, flags: &[u8]) -> bool
     counts::wrong_flags(flags) != detail
 }
 
-// The first check of entering a mark that applies, 0 where none does.
-pub fn enter_refusal(report: Report, ending: usize, detail: usize, flags: &[u8]) -> u8
-    ensures { result ≡ first (enter_checks report (mark_of ending detail flags.now)) }
+// The first check of entering a mark that applies.
+pub fn enter_refusal(
+    report: Report,
+    ending: usize,
+    detail: usize,
+    flags: &[u8],
+) -> Result<(), Refusal>
+    ensures { refused result ≡ first (enter_checks report (mark_of ending detail flags.now)) }
 {
     if 1000000 <= report.marks {
-        return 24;
+        return Err(Refusal::ReportFull);
     }
     if flags.len() != report.columns {
-        return 5;
+        return Err(Refusal::Buffers);
     }
     if bad_mark(ending, detail, flags) {
-        return 26;
+        return Err(Refusal::BadEntry);
     }
-    0
+    Ok(())
 }

@@ -9,7 +9,9 @@ ghost use Rattle.report.specs.Report.{Made, Opens, Enters, figures, mark_of};
 ghost use Rattle.report.specs.Ranking.{Ranks};
 ghost use Rattle.report.specs.Working.{Adding, added};
 
-use mark::Outcome;
+use mark::Handed;
+use refusal::Refusal;
+use std::cmp::Ordering;
 
 // Of a code with so many columns: how many marks were entered, and how many with each ending, by its code; their wrong columns in
 // total, for each column number, and the most in one mark. The places of columns that the code does not have are zero.
@@ -21,20 +23,6 @@ pub struct Report {
     pub wrong: usize,
     pub each: [usize; 96],
     pub most: usize,
-}
-
-// What opening hands over.
-#[derive(Clone, Copy)]
-pub struct Opened {
-    pub outcome: Outcome,
-    pub report: Report,
-}
-
-// What entering a mark hands back.
-#[derive(Clone, Copy)]
-pub struct Entered {
-    pub outcome: Outcome,
-    pub report: Report,
 }
 
 // Which of two suppliers comes first.
@@ -50,36 +38,30 @@ impl Report {
     fn empty(columns: usize) -> Self
         ensures { result ≡ figures columns [] }
     {
-        let endings = [0usize; 5];
-        let each = [0usize; 96];
         Report {
-            columns: columns,
+            columns,
             marks: 0,
-            endings: endings,
+            endings: [0; 5],
             wrong: 0,
-            each: each,
+            each: [0; 96],
             most: 0,
         }
     }
 
     // Opens a report for marks of so many columns; refusal 3. A refused opening hands over an empty report for one column.
-    pub fn open(columns: usize) -> Opened
+    pub fn open(columns: usize) -> Handed<Self>
         ensures opens { Opens columns result }
-        ensures made { Made result.report }
+        ensures made { Made result.next }
     {
         if refusal::outside(1, 96, columns) {
-            let refused = Outcome::Refused(3);
-            let spare = Report::empty(1);
-            return Opened {
-                outcome: refused,
-                report: spare,
+            return Handed {
+                outcome: Err(Refusal::Columns),
+                next: Report::empty(1),
             };
         }
-        let opened = Outcome::Done;
-        let report = Report::empty(columns);
-        Opened {
-            outcome: opened,
-            report: report,
+        Handed {
+            outcome: Ok(()),
+            next: Report::empty(columns),
         }
     }
 
@@ -96,30 +78,26 @@ impl Report {
         let each = self.each;
         self.wrong += detail;
         self.each = counts::with_flags(each, flags);
-        self.most = counts::larger(self.most, detail);
+        self.most = self.most.max(detail);
         self
     }
 
     // Enters a mark with its ending's code and detail and its flags; refusals 24, 5, 26. A refused entry hands the report back as it
     // was.
-    pub fn enter(self, ending: usize, detail: usize, flags: &[u8]) -> Entered
+    pub fn enter(self, ending: usize, detail: usize, flags: &[u8]) -> Handed<Self>
         requires { Made self }
         ensures enters { Enters self (mark_of ending detail flags.now) result }
-        ensures made { Made result.report }
+        ensures made { Made result.next }
     {
-        let k = checks::enter_refusal(self, ending, detail, flags);
-        if k != 0 {
-            let refused = Outcome::Refused(k);
-            return Entered {
-                outcome: refused,
-                report: self,
+        if let Err(refused) = checks::enter_refusal(self, ending, detail, flags) {
+            return Handed {
+                outcome: Err(refused),
+                next: self,
             };
         }
-        let entered = Outcome::Done;
-        let report = self.add(ending, detail, flags);
-        Entered {
-            outcome: entered,
-            report: report,
+        Handed {
+            outcome: Ok(()),
+            next: self.add(ending, detail, flags),
         }
     }
 
@@ -143,12 +121,10 @@ impl Report {
         }
         let first = self.wrong * others;
         let second = other.wrong * own;
-        if first < second {
-            return Ranking::First;
+        match first.cmp(&second) {
+            Ordering::Less => Ranking::First,
+            Ordering::Equal => Ranking::Equal,
+            Ordering::Greater => Ranking::Second,
         }
-        if second < first {
-            return Ranking::Second;
-        }
-        Ranking::Equal
     }
 }

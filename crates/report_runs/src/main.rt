@@ -12,127 +12,88 @@
 // held to the answers of another program (tests/second).
 #![tactic(auto)]
 
-ghost use Rattle.std.specs.Prelude.{◌≡◌, ◌≤◌, length, IfOk};
+ghost use Rattle.std.specs.Prelude.{◌≤◌, IfOk};
 ghost use Rattle.report.specs.Report.{Made};
 
-use mark::Outcome;
-use reading::read_full;
-use report::{Entered, Ranking, Report};
+use mark::Handed;
+use reading::read_frame;
+use report::{Ranking, Report};
 use std::io::Write;
 use std::{io, mem};
 
-// Writes what stands before a number, and the number.
-fn print(out: &mut impl Write, before: &str, n: usize) -> io::Result<()> {
-    write!(out, "{before}{n}")
-}
-
-// Writes the counts of the endings.
-fn print_endings(out: &mut impl Write, endings: [usize; 5]) -> io::Result<()> {
-    for n in endings {
-        print(out, " ", n)?;
-    }
-    Ok(())
-}
-
-// Writes the counts of the columns, with their numbers, that are not zero.
-fn print_columns(out: &mut impl Write, each: [usize; 96]) -> io::Result<()> {
-    for (i, n) in each.iter().enumerate() {
-        if *n != 0 {
-            print(out, " ", i)?;
-            print(out, ":", *n)?;
-        }
-    }
-    Ok(())
-}
-
 // Writes the line of an opening or an entry, and hands the report back.
-fn show(out: &mut impl Write, outcome: Outcome, report: Report) -> io::Result<Report>
-    requires { Made report }
+fn show(out: &mut impl Write, handed: Handed<Report>) -> io::Result<Report>
+    requires { Made handed.next }
     ensures { IfOk result (λ r. Made r) }
 {
-    match outcome {
-        Outcome::Done => write!(out, "done")?,
-        Outcome::Refused(k) => print(out, "!", k as usize)?,
+    match handed.outcome {
+        Ok(()) => write!(out, "done")?,
+        Err(refused) => write!(out, "!{}", refused.number())?,
     }
-    print(out, " ", report.columns)?;
-    print(out, " ", report.marks)?;
-    print_endings(out, report.endings)?;
-    print(out, " ", report.wrong)?;
-    print(out, " ", report.most)?;
-    print_columns(out, report.each)?;
+    let report = handed.next;
+    write!(out, " {} {}", report.columns, report.marks)?;
+    for n in report.endings {
+        write!(out, " {n}")?;
+    }
+    write!(out, " {} {}", report.wrong, report.most)?;
+    for (i, n) in report.each.iter().enumerate() {
+        if *n != 0 {
+            write!(out, " {i}:{n}")?;
+        }
+    }
     writeln!(out)?;
     Ok(report)
 }
 
-// Writes the line of a ranking.
-fn show_ranking(out: &mut impl Write, ranking: Ranking) -> io::Result<()> {
+// Says who comes first.
+fn told(ranking: Ranking) -> &'static str {
     match ranking {
-        Ranking::Equal => writeln!(out, "equal"),
-        Ranking::First => writeln!(out, "first"),
-        Ranking::Second => writeln!(out, "second"),
+        Ranking::Equal => "equal",
+        Ranking::First => "first",
+        Ranking::Second => "second",
     }
 }
 
-// A number of four bytes.
-fn number(a: u8, b: u8, c: u8, d: u8) -> usize {
-    a as usize + b as usize * 256 + c as usize * 65536 + d as usize * 16777216
-}
-
-// A count, or the most that there is room for.
-fn count(n: u8, most: usize) -> usize
-    ensures { result ≤ most }
+// The number of four bytes from a place on.
+fn number(frame: &[u8; 114], at: usize) -> usize
+    requires { at ≤ 110 }
 {
-    let n = n as usize;
-    if most < n { most } else { n }
+    u32::from_le_bytes([frame[at], frame[at + 1], frame[at + 2], frame[at + 3]]) as usize
 }
 
-// Enters a mark so often, at least once, and hands back what the last time gave.
-fn enter(report: Report, ending: usize, detail: usize, times: usize, flags: &[u8]) -> Entered
+// Enters the mark of a frame so often, at least once, and hands over what the last time gave.
+fn enter(report: Report, frame: &[u8; 114]) -> Handed<Report>
     requires { Made report }
-    ensures { Made result.report }
+    ensures { Made result.next }
 {
+    let ending = number(frame, 1);
+    let detail = number(frame, 5);
+    let times = number(frame, 9);
+    let flags = &frame[14..14 + usize::from(frame[13].min(100))];
     let mut entered = report.enter(ending, detail, flags);
     for _ in 1..times {
-        entered = entered.report.enter(ending, detail, flags);
+        entered = entered.next.enter(ending, detail, flags);
     }
     entered
-}
-
-// Makes the opening or the entry of a frame, and hands the next report back.
-fn step(out: &mut impl Write, report: Report, frame: &[u8]) -> io::Result<Report>
-    requires made { Made report }
-    requires frame_len { length frame.now ≡ 114 }
-    ensures { IfOk result (λ r. Made r) }
-{
-    let x = number(frame[1], frame[2], frame[3], frame[4]);
-    if frame[0] == 0 {
-        let opened = Report::open(x);
-        return show(out, opened.outcome, opened.report);
-    }
-    let detail = number(frame[5], frame[6], frame[7], frame[8]);
-    let times = number(frame[9], frame[10], frame[11], frame[12]);
-    let flags = count(frame[13], 100);
-    let entered = enter(report, x, detail, times, &frame[14..14 + flags]);
-    show(out, entered.outcome, entered.report)
 }
 
 fn main(rt: HostRuntime) -> io::Result<()> {
     let mut input = rt.stdin();
     let mut out = rt.stdout();
-    let opened = Report::open(1);
-    let mut own = opened.report;
+    let mut own = Report::open(1).next;
     let mut other = own;
     for _ in 0..u64::MAX {
-        let mut frame = [0u8; 114];
-        if read_full(&mut input, &mut frame)? < 114 {
+        let Some(frame) = read_frame(&mut input)? else {
             break;
+        };
+        match frame[0] {
+            0 => own = show(&mut out, Report::open(number(&frame, 1)))?,
+            1 => own = show(&mut out, enter(own, &frame))?,
+            _ => {
+                writeln!(out, "{}", told(own.rank(other)))?;
+                mem::swap(&mut own, &mut other);
+            }
         }
-        if frame[0] < 2 {
-            own = step(&mut out, own, &frame)?;
-            continue;
-        }
-        show_ranking(&mut out, own.rank(other))?;
-        mem::swap(&mut own, &mut other);
     }
     Ok(())
 }

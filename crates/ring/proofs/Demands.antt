@@ -12,10 +12,9 @@ use mathlib.Core.List.{List}
 use Prim.Native.Nat.{ℕ}
 use lib.ListN.{length}
 use Rattle.refusal.specs.Refusal.{first}
+use Rattle.refusal.specs.Meaning.{refusal}
 use Rattle.codes.specs.Code.{IsMessage}
-use Rattle.mark.specs.Promises.{Left, meaning, done}
-use Rattle.mark.specs.declared.Outcome.TheVariants.{Done}
-use Rattle.mark.specs.declared.Outcome.TheVariants as Mark
+use Rattle.mark.specs.Promises.{success, Left, done}
 use Rattle.mark.proofs.Promised as mark
 use Rattle.hermitian.specs.Ring.{ring_code, ring_word, RingWord, IsRing}
 use Rattle.hermitian.specs.Checks.{encode_checks, read_checks}
@@ -25,24 +24,24 @@ use Rattle.ring.specs.Promises.{Encodes, Reads}
 use Rattle.ring.proofs.Unique.{reads_unique}
 
 module _ (q m : ℕ) (f lent : List ℕ) (x : Left) (h : Encodes q m f lent x) where
-  pub encode_done : (x.outcome ≡ meaning Done) ↔ (first (encode_checks q m f lent) ≡ 0)
+  pub encode_done : (x.outcome ≡ success) ↔ (first (encode_checks q m f lent) ≡ 0)
   encode_done = mark.write_done (encode_checks q m f lent) (ring_word q m f) lent x h
 
-  pub encode_word : x.outcome ≡ meaning Done → x.buffer ≡ ring_word q m f
+  pub encode_word : x.outcome ≡ success → x.buffer ≡ ring_word q m f
   encode_word = mark.write_is (encode_checks q m f lent) (ring_word q m f) lent x h
 
   -- 'A refused encoding or reading leaves its result buffer as lent.'
-  pub encode_refused : (k : ℕ) → x.outcome ≡ meaning (Mark.Refused k) → (first (encode_checks q m f lent) ≡ k) × (x.buffer ≡ lent)
+  pub encode_refused : (k : ℕ) → x.outcome ≡ refusal k → (first (encode_checks q m f lent) ≡ k) × (x.buffer ≡ lent)
   encode_refused = mark.write_refused (encode_checks q m f lent) (ring_word q m f) lent x h
 
 module _ (q m : ℕ) (w lent : List ℕ) (x : Left) (h : Reads q m w lent x) where
-  pub read_done : (x.outcome ≡ meaning Done) ↔ ((first (read_checks q m w lent) ≡ 0) × RingWord q m w)
+  pub read_done : (x.outcome ≡ success) ↔ ((first (read_checks q m w lent) ≡ 0) × RingWord q m w)
   read_done = mark.find_done (read_checks q m w lent) (IsMessage (ring_code q m)) (ring_word q m) w lent x h
 
-  pub read_message : x.outcome ≡ meaning Done → IsMessage (ring_code q m) x.buffer × (ring_word q m x.buffer ≡ w)
+  pub read_message : x.outcome ≡ success → IsMessage (ring_code q m) x.buffer × (ring_word q m x.buffer ≡ w)
   read_message = mark.find_message (read_checks q m w lent) (IsMessage (ring_code q m)) (ring_word q m) w lent x h
 
-  pub read-refused : (k : ℕ) → x.outcome ≡ meaning (Mark.Refused k)
+  pub read-refused : (k : ℕ) → x.outcome ≡ refusal k
       → ((first (read_checks q m w lent) ≡ k) ⊎ ((k ≡ 9) × (RingWord q m w → ⊥))) × (x.buffer ≡ lent)
   read-refused = mark.find_refused (read_checks q m w lent) (IsMessage (ring_code q m)) (ring_word q m) w lent x h
 

@@ -2,7 +2,6 @@
 --
 --   above q ys a j i     at the point of place i, the value of what row j and the rows behind it give
 --   Raised q ys a s j    s has these values times y
---   row_given            what adding a row asks
 --   raised_none          before the first row they are zero
 --   Added q ys a s j, added    s has the values themselves: so it is when row j is added
 --   added_in, ordinates_in    these are symbols, and so are the y
@@ -14,8 +13,9 @@ use mathlib.Core.List.{List, [], ◌∷◌}
 use Prim.Native.Nat.{ℕ, zero, suc, ◌+◌, ◌*◌, ◌/◌, ◌%◌, ◌<◌}
 use native.Mathlib.Nat.{zero-add, mod-lt, div-add-mod', div-lt_iff_lt-mul}
 use native.Mathlib.Omega.{arith}
-use lib.ListN.{length, get_or, drop}
+use lib.ListN.{length, get_or, drop, replicate}
 use lib.Seq.{drop-cons, ext_get_or}
+use Rattle.std.proofs.lemmas.List.{length-replicate, get_or-replicate}
 use Rattle.patch.specs.Patch.{patch}
 use Rattle.patch.specs.Parts.{part}
 use Rattle.patch.proofs.Laws.{length-patch, get_or-patch}
@@ -30,9 +30,9 @@ use Rattle.poly.proofs.Values.{value_in}
 use Rattle.rows.proofs.Symbols.{symbols_whole}
 use Rattle.codes.proofs.Parts.{all_drop}
 use Rattle.hermitian.specs.Ring.{sector, column, ring_of}
-use Rattle.ring.specs.Working.{RowGiven, SectorsGiven, column_added, row_added}
+use Rattle.ring.specs.Working.{SectorsGiven, column_added, row_added}
 use Rattle.ring_checks.proofs.Ordinates.{all_y}
-use Rattle.hermitian.proofs.Numbers.{all_flat, map_at, length-column, column_at, part_fits, part_flat}
+use Rattle.hermitian.proofs.Numbers.{all_flat, map_at, length-column, column_at, part_flat}
 use Rattle.hermitian.proofs.Sizes.{sides, sectors}
 use Rattle.hermitian.proofs.Rings.{ring_field, symbols_column, sector_ring, is_ring}
 
@@ -76,24 +76,18 @@ module _ (q : ℕ) (ys a : List ℕ) where
       rw (drop-cons (column q (q * q) a (i / q)) j 0 (omega (arith, length-column q (q * q) a (i / q))), column_at q (q * q) a (i / q) j h)
       refl
 
-module _ {q : ℕ} {table ys a l : List ℕ} (g : SectorsGiven q table ys a l) where
+module _ {q : ℕ} {ys a l : List ℕ} (g : SectorsGiven q ys a l) where
   𝓕 : Field (gf q)
   𝓕 = ring_field q g.size
 
   count : length ys ≡ q * q * q
   count = all_y q g.size g.ordinates
 
-  pub row_given : (j : ℕ) {at : ℕ} {s : List ℕ} → j < q → at ≡ j * (q * q) → length s ≡ q * q * q → RowGiven q a at s
-  row_given j h e long = record {
-    size = g.size;
-    row = omega (arith, part_fits (q * q) q j h, (sides q q g.size refl).cells, g.ring.count);
-    room = long;
-  }
-
-  pub raised_none : {s : List ℕ} → length l ≡ q * q * q → s ≡ patch 0 (length l) (λ k. 0) l → Raised q ys a s q
+  pub raised_none : {s : List ℕ} → length l ≡ q * q * q → s ≡ replicate (length l) 0 → Raised q ys a s q
   raised_none e is = record {
-    long = ap length is ∙ length-patch 0 (λ k. 0) l (length l) ∙ e;
-    holds = λ i h. written (λ k. 0) l is refl i (omega arith) ∙ sym (rw (above_end q ys a i) (times_zero (gf q) 𝓕 (get_or ys i 0)));
+    long = ap length is ∙ length-replicate (length l) 0 ∙ e;
+    holds = λ i h. ap (λ (k : List ℕ). get_or k i 0) is ∙ get_or-replicate (length l) i 0 0 (omega arith)
+        ∙ sym (rw (above_end q ys a i) (times_zero (gf q) 𝓕 (get_or ys i 0)));
   }
 
   pub added : (j : ℕ) {at : ℕ} {s t : List ℕ} → j < q → at ≡ j * (q * q) → Raised q ys a s (suc j) → t ≡ row_added q a at s

@@ -1,12 +1,12 @@
 -- The array of a ring from its last row to its first, by sums over the sectors.
 --
 --   Going q ys w v a j    v has the symbols of w times y^(q − 1 − j), and the rows of a behind j are made
+--   cut_summed            only the first q³ of the array count
 --   going_start, going_row, going_end    before the last row; a row; behind the first
---   row_room              there is room for a row; sum-given, what summing it asks
 --   multiplied_in         what a row multiplies are symbols
---   cut_summed            only the first q³ count
 -- Assumes nothing.
 use mathlib.Core.Path.{◌≡◌, refl, sym, ap, ap₂, ◌∙◌}
+use mathlib.Core.Bool.{false}
 use mathlib.Core.List.{List}
 use Prim.Native.Nat.{ℕ, suc, ◌+◌, ◌-◌, ◌*◌, ◌≤◌, ◌<◌}
 use native.Mathlib.Nat.{zero-add, zero-mul, suc-mul, mul-le-mul_right}
@@ -24,10 +24,11 @@ use Rattle.poly.proofs.Ring.{plus-zero}
 use Rattle.rows.proofs.Symbols.{symbol_at}
 use Rattle.hermitian.specs.Ring.{sector}
 use Rattle.hermitian.proofs.Numbers.{part_fits}
+use Rattle.hermitian.specs.Checks.{bad_size}
 use Rattle.hermitian.proofs.Sizes.{sides}
 use Rattle.hermitian.proofs.Rings.{ring_field}
 use Rattle.hermitian.proofs.Kernel.{sum_to, powered, sum_cong, powered_in, Summed}
-use Rattle.ring.specs.Working.{SectorsGiven, SumGiven, Holds, sector_sum, row_summed}
+use Rattle.ring.specs.Working.{SectorsGiven, Holds, sector_sum, row_summed}
 use Rattle.ring_checks.proofs.Ordinates.{all_y, y_at}
 
 pub record Going (q : ℕ) (ys w v a : List ℕ) (j : ℕ) : Type 0 where
@@ -36,22 +37,26 @@ pub record Going (q : ℕ) (ys w v a : List ℕ) (j : ℕ) : Type 0 where
   pub rows : (k x : ℕ) → j < k → k < q → x < q * q
       → get_or a (k * (q * q) + x) 0 ≡ sum_to (λ i. powered q (get_or (sector q x) i 0) (get_or w (x * q + i) 0) (q - 1 - k)) q
 
-module _ {q : ℕ} {table ys w a₀ : List ℕ} (g : SectorsGiven q table ys w a₀) where
+module _ {q : ℕ} (size : bad_size q ≡ false) where
+  row_room : (j : ℕ) → j < q → j * (q * q) + q * q ≤ q * q * q
+  row_room j h = omega (arith, part_fits (q * q) q j h, (sides q q size refl).cells)
+
+  pub cut_summed : {w a : List ℕ} → Summed q w a → Summed q w (take (q * q * q) a)
+  cut_summed {a} s = record {
+    first = λ x hx. get_or-take (q * q * q) a x 0 (omega (arith, rw (zero-mul (q * q)) at (row_room 0 (sides q q size refl).some))) ∙ s.first x hx;
+    later = λ k x positive below hx. get_or-take (q * q * q) a (k * (q * q) + x) 0 (omega (arith, row_room k below))
+        ∙ s.later k x positive below hx;
+  }
+
+module _ {q : ℕ} {ys w a₀ : List ℕ} (g : SectorsGiven q ys w a₀) where
   count : length ys ≡ q * q * q
   count = all_y q g.size g.ordinates
 
   some : 0 < q
   some = (sides q q g.size refl).some
 
-  pub row_room : (j : ℕ) → j < q → j * (q * q) + q * q ≤ q * q * q
-  row_room j h = omega (arith, part_fits (q * q) q j h, (sides q q g.size refl).cells)
-
   place : (x i : ℕ) → x < q * q → i < q → x * q + i < q * q * q
   place x i hx hi = omega (arith, part_fits q (q * q) x hx)
-
-  pub sum-given : {v a : List ℕ} (j : ℕ) {at : ℕ} → j < q → at ≡ j * (q * q) → q * q * q ≤ length v → length a ≡ length a₀
-      → SumGiven q v at a
-  sum-given j h e room long = record { size = g.size; ring = room; row = omega (arith, row_room j h, g.room) }
 
   pub multiplied_in : {v a : List ℕ} {j : ℕ} → Going q ys w v a j → SymbolsAt q v 0 (length ys)
   multiplied_in {j = j} t i h =
@@ -97,7 +102,7 @@ module _ {q : ℕ} {table ys w a₀ : List ℕ} (g : SectorsGiven q table ys w a
           ≡ sum_to (λ i. powered q (get_or (sector q x) i 0) (get_or w (x * q + i) 0) (q - 1 - k)) q
       by k x above below hx (yes f) =
           let here : get_or (patch at (q * q) (sector_sum q v) a) (k * (q * q) + x) 0 ≡ sector_sum q v x =
-          rw (f, ← e) (get_or-patch at (sector_sum q v) a (q * q) x 0 hx (omega (arith, row_room j h, g.room))) in
+          rw (f, ← e) (get_or-patch at (sector_sum q v) a (q * q) x 0 hx (omega (arith, row_room g.size j h, g.room))) in
           here ∙ sum_at v (λ y u. powered q y u (q - 1 - j)) t.held x hx
           ∙ ap (λ (m : ℕ). sum_to (λ i. powered q (get_or (sector q x) i 0) (get_or w (x * q + i) 0) (q - 1 - m)) q) (sym f)
       by k x above below hx (no f) =
@@ -115,7 +120,7 @@ module _ {q : ℕ} {table ys w a₀ : List ℕ} (g : SectorsGiven q table ys w a
   going_end {v} {v'} {a} {a'} {j} none long t added made = record {
     first = λ x hx. rw made (rw zero-add at (get_or-patch 0 (sector_sum q v') a (q * q) x 0 hx (omega (
       arith,
-      rw (zero-mul (q * q)) at (row_room 0 some),
+      rw (zero-mul (q * q)) at (row_room g.size 0 some),
       g.room,
     ))))
         ∙ sum_at v' (λ y u. plus (powered q y u (q - 1)) u) both x hx;
@@ -132,10 +137,3 @@ module _ {q : ℕ} {table ys w a₀ : List ℕ} (g : SectorsGiven q table ys w a
           ap (λ (k : ℕ). get_or v' k 0) (sym (zero-add i))
           ∙ rw added (get_or-patch 0 (summed w v 0) v (length w) i 0 (omega (arith, g.ring.count)) (omega (arith, g.ring.count, t.room)))
           ∙ ap (λ (s : ℕ). plus s (get_or w i 0)) (stood ∙ ap (powered q (get_or ys i 0) (get_or w i 0)) all)
-
-  pub cut_summed : {a : List ℕ} → Summed q w a → Summed q w (take (q * q * q) a)
-  cut_summed {a} s = record {
-    first = λ x hx. get_or-take (q * q * q) a x 0 (omega (arith, rw (zero-mul (q * q)) at (row_room 0 some))) ∙ s.first x hx;
-    later = λ k x positive below hx. get_or-take (q * q * q) a (k * (q * q) + x) 0 (omega (arith, row_room k below))
-        ∙ s.later k x positive below hx;
-  }

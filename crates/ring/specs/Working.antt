@@ -7,7 +7,7 @@
 --   SectorGiven q v x         v has the symbols of sector x
 --   SumGiven q v at a         v has q³ symbols, and there is room in a for a row from `at` on
 --   Holds q w v               v begins with q³ symbols of w
---   SectorsGiven q t ys w s   q³ symbols w, their y, the field's table t, and room in s
+--   SectorsGiven q ys w s     q³ symbols w, their y, and room in s
 --   RowGiven q a at s         a row in a from `at` on, and q³ symbols s
 --   RingGiven q w             q³ symbols
 --   ArrayGiven q a w          q³ symbols, and as much room for their ring
@@ -15,7 +15,6 @@ use Rattle.std.specs.Prelude.{◌≡◌, false, ℕ, ◌+◌, ◌*◌, ◌/◌, 
 use mathlib.Core.List.{List, flat_map}
 use Rattle.patch.specs.Patch.{patch}
 use Rattle.field.specs.Symbols.{plus}
-use Rattle.field.specs.Working.Tables.{IsTable}
 use Rattle.hermitian.specs.Ring.{numbers, sector, IsRing}
 use Rattle.hermitian.specs.Checks.{bad_size}
 use Rattle.hermitian.proofs.Kernel.{sum_to}
@@ -45,9 +44,8 @@ pub record Holds (q : ℕ) (w v : List ℕ) : Type 0 where
   pub room : q * q * q ≤ length v
   pub same : (i : ℕ) → i < q * q * q → get_or v i 0 ≡ get_or w i 0
 
-pub record SectorsGiven (q : ℕ) (t ys w s : List ℕ) : Type 0 where
+pub record SectorsGiven (q : ℕ) (ys w s : List ℕ) : Type 0 where
   pub size : bad_size q ≡ false
-  pub table : IsTable q t
   pub ordinates : ys ≡ flat_map (sector q) (numbers (q * q))
   pub ring : IsRing q w
   pub room : q * q * q ≤ length s

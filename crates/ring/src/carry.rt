@@ -6,8 +6,7 @@ ghost use Rattle.hermitian.proofs.Kernel.{Summed};
 ghost use Rattle.ring.specs.Working.{ArrayGiven, RingGiven, RowGiven, SectorGiven, SectorsGiven, SumGiven, Holds};
 ghost use Rattle.ring.specs.Working.{row_added, row_summed, sector_sum};
 
-use field::tables;
-use field::tables::Table;
+use field::Field;
 use ring_checks::shape;
 
 // The sum of the symbols of sector x.
@@ -27,26 +26,23 @@ fn sum_row(q: u32, v: &[u8], array: &mut [u8], at: usize)
     ensures { array.new ≡ row_summed q v.now at array.old }
 {
     let n = shape::side(q);
-    let mut x = 0;
-    while x < n * n {
+    for x in 0..n * n {
         array[at + x] = sector_sum(q, v, x);
-        x += 1;
     }
 }
 
 // The array of a ring from its last row to its first, v beginning with a copy of the ring: the sums of the sectors, multiplied by y
 // from row to row, and in the first row the ring added.
-fn carry_sums(table: &Table, q: u32, ys: &[u8], ring: &[u8], v: &mut [u8], array: &mut [u8])
-    requires sectors_given { SectorsGiven q table.now ys.now ring.now array.old }
-    requires holds { Holds q ring.now v.old }
-    ensures { Summed q ring.now array.new }
+fn carry_sums(field: &Field, ys: &[u8], ring: &[u8], v: &mut [u8], array: &mut [u8])
+    requires sectors_given { SectorsGiven field.now.degree ys.now ring.now array.old }
+    requires holds { Holds field.now.degree ring.now v.old }
+    ensures { Summed field.now.degree ring.now array.new }
 {
+    let q = field.degree;
     let n = shape::side(q);
-    let mut j = n - 1;
-    while 0 < j {
+    for j in (1..n).rev() {
         sum_row(q, v, array, j * (n * n));
-        lists::multiply(table, q, ys, 0, v, 0, 0);
-        j -= 1;
+        lists::multiply(field, ys, 0, v, 0, 0);
     }
     lists::add(ring, v, 0);
     sum_row(q, v, array, 0);
@@ -65,26 +61,23 @@ fn add_row(q: u32, array: &[u8], at: usize, ring: &mut [u8])
     requires { RowGiven q array.now at ring.old }
     ensures { ring.new ≡ row_added q array.now at ring.old }
 {
-    let mut i = 0;
-    while i < ring.len() {
-        ring[i] = ring[i] ^ array[at + sector_of(q, i)];
-        i += 1;
+    for (i, symbol) in ring.iter_mut().enumerate() {
+        *symbol ^= array[at + sector_of(q, i)];
     }
 }
 
 // The ring of an array from its last row to its first, by Horner's rule in y at all points at once.
-fn carry_rows(table: &Table, q: u32, ys: &[u8], array: &[u8], ring: &mut [u8])
-    requires sectors_given { SectorsGiven q table.now ys.now array.now ring.old }
-    requires ring_len { length ring.old ≡ q * q * q }
-    ensures { ring.new ≡ ring_of q array.now }
+fn carry_rows(field: &Field, ys: &[u8], array: &[u8], ring: &mut [u8])
+    requires sectors_given { SectorsGiven field.now.degree ys.now array.now ring.old }
+    requires ring_len { length ring.old ≡ field.now.degree * field.now.degree * field.now.degree }
+    ensures { ring.new ≡ ring_of field.now.degree array.now }
 {
-    rows::clear(ring, 0, ring.len());
+    ring.fill(0);
+    let q = field.degree;
     let n = shape::side(q);
-    let mut j = n - 1;
-    while 0 < j {
+    for j in (1..n).rev() {
         add_row(q, array, j * (n * n), ring);
-        lists::multiply(table, q, ys, 0, ring, 0, 0);
-        j -= 1;
+        lists::multiply(field, ys, 0, ring, 0, 0);
     }
     add_row(q, array, 0, ring);
 }
@@ -94,9 +87,9 @@ pub fn to_ring(q: u32, array: &[u8], ring: &mut [u8])
     requires { ArrayGiven q array.now ring.old }
     ensures { ring.new ≡ ring_of q array.now }
 {
-    let table = tables::lend(q);
+    let field = Field::new(q);
     let ys = shape::ordinates(q);
-    carry_rows(&table, q, &ys[..array.len()], array, ring);
+    carry_rows(&field, &ys[..array.len()], array, ring);
 }
 
 // The array of a ring, of which as many symbols count as the ring has.
@@ -104,11 +97,11 @@ pub fn array_of(q: u32, ring: &[u8]) -> [u8; 64]
     requires { RingGiven q ring.now }
     ensures { ArrayOf q ring.now (take (length ring.now) result) }
 {
-    let table = tables::lend(q);
+    let field = Field::new(q);
     let ys = shape::ordinates(q);
     let mut held = [0u8; 64];
-    rows::store(ring, &mut held, 0);
+    held[..ring.len()].copy_from_slice(ring);
     let mut array = [0u8; 64];
-    carry_sums(&table, q, &ys[..ring.len()], ring, &mut held, &mut array);
+    carry_sums(&field, &ys[..ring.len()], ring, &mut held, &mut array);
     array
 }

@@ -10,7 +10,7 @@ ghost use Rattle.ring.specs.Promises.{Encodes, Reads};
 
 pub mod carry;
 
-use mark::Outcome;
+use refusal::Refusal;
 use ring_checks::{checks, shape};
 
 // Writes the word of a message that passed the checks: the ring of its code array.
@@ -23,7 +23,8 @@ fn write_word(q: u32, m: u32, message: &[u8], word: &mut [u8])
     let xs = shape::columns(q);
     let ones = [1u8; 16];
     let mut array = [0u8; 64];
-    mark::encode(
+    // A message that passed the checks of the ring passes those of the array: this refuses nothing.
+    let _ = mark::encode(
         q,
         &ks[..n],
         &xs[..n * n],
@@ -35,7 +36,7 @@ fn write_word(q: u32, m: u32, message: &[u8], word: &mut [u8])
 }
 
 // Writes the message of a ring that passed the checks, if it has one: that of its array.
-fn read_word(q: u32, m: u32, word: &[u8], message: &mut [u8]) -> Outcome
+fn read_word(q: u32, m: u32, word: &[u8], message: &mut [u8]) -> Result<(), Refusal>
     requires { 0 ≡ first (read_checks q m word.now message.old) }
     ensures { Reads q m word.now message.old (left result message.new) }
 {
@@ -55,25 +56,19 @@ fn read_word(q: u32, m: u32, word: &[u8], message: &mut [u8]) -> Outcome
 }
 
 // Writes the word of H(m) of a message; refusals 10, 11, 18, 5 and 7, which leave the word's buffer as lent.
-pub fn encode(q: u32, m: u32, message: &[u8], word: &mut [u8]) -> Outcome
+pub fn encode(q: u32, m: u32, message: &[u8], word: &mut [u8]) -> Result<(), Refusal>
     ensures { Encodes q m message.now word.old (left result word.new) }
 {
-    let k = checks::encode_refusal(q, m, message, word.len());
-    if k != 0 {
-        return Outcome::Refused(k);
-    }
+    checks::encode_refusal(q, m, message, word.len())?;
     write_word(q, m, message, word);
-    Outcome::Done
+    Ok(())
 }
 
 // Writes the message of a word of H(m); refusals 10, 11, 18, 5 and 7, and 9 where the ring is no word. They leave the message's
 // buffer as lent.
-pub fn read(q: u32, m: u32, word: &[u8], message: &mut [u8]) -> Outcome
+pub fn read(q: u32, m: u32, word: &[u8], message: &mut [u8]) -> Result<(), Refusal>
     ensures { Reads q m word.now message.old (left result message.new) }
 {
-    let k = checks::read_refusal(q, m, word, message.len());
-    if k != 0 {
-        return Outcome::Refused(k);
-    }
+    checks::read_refusal(q, m, word, message.len())?;
     read_word(q, m, word, message)
 }

@@ -1,6 +1,7 @@
 // For the crates above: the checks of the calls on rings, in order.
 ghost use Rattle.std.specs.Prelude.{◌≡◌, false, List, ◌++◌, ℕ, length};
 ghost use Rattle.refusal.specs.Refusal.{first};
+ghost use Rattle.refusal.specs.Numbers.{refused};
 ghost use Rattle.codes.specs.Code.{total};
 ghost use Rattle.codes.specs.Checks.{remaining_checks, unchecked};
 ghost use Rattle.hermitian.specs.Ring.{ring_code, ring_lengths};
@@ -9,15 +10,14 @@ ghost use Rattle.hermitian.specs.Checks.{received_checks, ring_checks};
 ghost use Rattle.hermitian.proofs.Passed.{Passed};
 
 use crate::shape;
+use refusal::Refusal;
 
 // Number 10 applies, q is not 2 or 4.
+#[tactic(auto, unfolding(hermitian::specs::Checks::bad_size))]
 fn bad_size(q: u32) -> bool
     ensures { result ≡ bad_size q }
 {
-    if q == 2 {
-        return false;
-    }
-    q != 4
+    !matches!(q, 2 | 4)
 }
 
 // Number 11 applies, m is not q² − 1 to q³ − 1.
@@ -36,23 +36,23 @@ fn unchecked(q: u32, m: u32) -> bool
     ensures { result ≡ unchecked (ring_code q m) }
 {
     let n = shape::side(q);
-    n * n == shape::length(q, m, 0) as usize
+    n * n == usize::from(shape::length(q, m, 0))
 }
 
-// The first of the checks 10, 11 and 18 that applies, 0 where none does.
-pub fn ring_refusal(q: u32, m: u32) -> u8
-    ensures { result ≡ first (ring_checks q m) }
+// The first of the checks 10, 11 and 18 that applies.
+pub fn ring_refusal(q: u32, m: u32) -> Result<(), Refusal>
+    ensures { refused result ≡ first (ring_checks q m) }
 {
     if bad_size(q) {
-        return 10;
+        return Err(Refusal::RingSize);
     }
     if bad_order(q, m) {
-        return 11;
+        return Err(Refusal::RingOrder);
     }
     if unchecked(q, m) {
-        return 18;
+        return Err(Refusal::Unchecked);
     }
-    0
+    Ok(())
 }
 
 // The sum of the message lengths of H(m).
@@ -64,10 +64,10 @@ pub fn total(q: u32, m: u32) -> usize
     array_checks::total(&ks[..shape::side(q)])
 }
 
-// The first of the checks 16, 17 and 8 that applies to lost sectors of H(m), 0 where none does.
-fn remaining_refusal(q: u32, m: u32, limit: u32, lost: &[u8]) -> u8
+// The first of the checks 16, 17 and 8 that applies to lost sectors of H(m).
+fn remaining_refusal(q: u32, m: u32, limit: u32, lost: &[u8]) -> Result<(), Refusal>
     requires { Passed q m }
-    ensures { result ≡ first (remaining_checks (ring_code q m) limit lost.now) }
+    ensures { refused result ≡ first (remaining_checks (ring_code q m) limit lost.now) }
 {
     let n = shape::side(q);
     let ks = shape::lengths(q, m);
@@ -76,42 +76,44 @@ fn remaining_refusal(q: u32, m: u32, limit: u32, lost: &[u8]) -> u8
 }
 
 // The first of the checks 10, 11, 18, 5 and 7 that applies to a message and a word of these lengths, of which the symbols are the
-// input; 0 where none does.
-fn buffers_refusal(q: u32, m: u32, message: usize, word: usize, symbols: &[u8]) -> u8
+// input.
+fn buffers_refusal(
+    q: u32,
+    m: u32,
+    message: usize,
+    word: usize,
+    symbols: &[u8],
+) -> Result<(), Refusal>
     ensures { (f w : List ℕ) → length f ≡ message → length w ≡ word
-        → result ≡ first (ring_checks q m ++ buffer_checks q m f w symbols.now) }
+        → refused result ≡ first (ring_checks q m ++ buffer_checks q m f w symbols.now) }
 {
-    let k = ring_refusal(q, m);
-    if k != 0 {
-        return k;
-    }
+    ring_refusal(q, m)?;
     let n = shape::side(q);
     if (message != total(q, m)) | (word != n * n * n) {
-        return 5;
+        return Err(Refusal::Buffers);
     }
     if refusal::some_outside_field(q, symbols) {
-        return 7;
+        return Err(Refusal::Symbols);
     }
-    0
+    Ok(())
 }
 
-// The first check of encoding that applies, 0 where none does. Of the word's buffer the checks read the length alone, its room.
-pub fn encode_refusal(q: u32, m: u32, message: &[u8], room: usize) -> u8
-    ensures { (w : List ℕ) → length w ≡ room → result ≡ first (encode_checks q m message.now w) }
+// The first check of encoding that applies. Of the word's buffer the checks read the length alone, its room.
+pub fn encode_refusal(q: u32, m: u32, message: &[u8], room: usize) -> Result<(), Refusal>
+    ensures { (w : List ℕ) → length w ≡ room → refused result ≡ first (encode_checks q m message.now w) }
 {
     buffers_refusal(q, m, message.len(), room, message)
 }
 
-// The first of the checks of reading but 9 that applies, 0 where none does. Of the message's buffer the checks read the length
-// alone, its room.
-pub fn read_refusal(q: u32, m: u32, word: &[u8], room: usize) -> u8
-    ensures { (f : List ℕ) → length f ≡ room → result ≡ first (read_checks q m word.now f) }
+// The first of the checks of reading but 9 that applies. Of the message's buffer the checks read the length alone, its room.
+pub fn read_refusal(q: u32, m: u32, word: &[u8], room: usize) -> Result<(), Refusal>
+    ensures { (f : List ℕ) → length f ≡ room → refused result ≡ first (read_checks q m word.now f) }
 {
     buffers_refusal(q, m, room, word.len(), word)
 }
 
-// The first of the checks 5 and 7 of decoding that applies, 0 where none does, where there are to be so many flags. Of the buffers for
-// the answer, the flags and the working space the checks read the lengths alone.
+// The first of the checks 5 and 7 of decoding that applies, where there are to be so many flags. Of the buffers for the answer, the
+// flags and the working space the checks read the lengths alone.
 pub fn received_refusal(
     q: u32,
     count: usize,
@@ -119,10 +121,10 @@ pub fn received_refusal(
     answer: usize,
     flags: usize,
     space: usize,
-) -> u8
+) -> Result<(), Refusal>
     requires { bad_size q ≡ false }
     ensures { (w f s : List ℕ) → length w ≡ answer → length f ≡ flags → length s ≡ space
-        → result ≡ first (received_checks q count received.now w f s) }
+        → refused result ≡ first (received_checks q count received.now w f s) }
 {
     let n = shape::side(q);
     let symbols = n * n * n;
@@ -131,16 +133,16 @@ pub fn received_refusal(
         | (flags != count)
         | (space < array_checks::SPACE)
     {
-        return 5;
+        return Err(Refusal::Buffers);
     }
     if refusal::some_outside_field(q, received) {
-        return 7;
+        return Err(Refusal::Symbols);
     }
-    0
+    Ok(())
 }
 
-// The first check of decoding with lost sectors that applies, 0 where none does. Of the buffers for the answer, the flags and the
-// working space the checks read the lengths alone.
+// The first check of decoding with lost sectors that applies. Of the buffers for the answer, the flags and the working space the
+// checks read the lengths alone.
 pub fn lost_refusal(
     q: u32,
     m: u32,
@@ -150,18 +152,12 @@ pub fn lost_refusal(
     answer: usize,
     flags: usize,
     space: usize,
-) -> u8
+) -> Result<(), Refusal>
     ensures { (w f s : List ℕ) → length w ≡ answer → length f ≡ flags → length s ≡ space
-        → result ≡ first (lost_checks q m limit lost.now received.now w f s) }
+        → refused result ≡ first (lost_checks q m limit lost.now received.now w f s) }
 {
-    let of_ring = ring_refusal(q, m);
-    if of_ring != 0 {
-        return of_ring;
-    }
+    ring_refusal(q, m)?;
     let n = shape::side(q);
-    let of_word = received_refusal(q, n * n, received, answer, flags, space);
-    if of_word != 0 {
-        return of_word;
-    }
+    received_refusal(q, n * n, received, answer, flags, space)?;
     remaining_refusal(q, m, limit, lost)
 }

@@ -61,10 +61,8 @@ pub fn lengths(q: u32, m: u32) -> [u8; 4]
     ensures { take q result ≡ ring_lengths q m }
 {
     let mut ks = [0u8; 4];
-    let mut j = 0;
-    while j < side(q) {
+    for j in 0..side(q) {
         ks[j] = length(q, m, j);
-        j += 1;
     }
     ks
 }

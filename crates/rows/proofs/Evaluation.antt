@@ -89,18 +89,16 @@ module _ (d : ℕ) (good : bad_degree d ≡ false) (nodes us : List ℕ) (enough
   rest_whole x = rw (sub-zero (length us))
 
   inner_less : (j x y : ℕ) → 1 < j → j ≤ length us → y ≡ inner d nodes us j x
-      → times d (plus x (get_or nodes (j - 2) 0)) (plus y (get_or us (j - 1) 0)) ≡ inner d nodes us (j - 1) x
+      → times d (plus x (get_or nodes (j - 1 - 1) 0)) (plus y (get_or us (j - 1) 0)) ≡ inner d nodes us (j - 1) x
   unfolding inner
-  inner_less j x y h k e =
-      let two : j - 2 ≡ j - 1 - 1 = omega arith in
-      ap₂ (λ (i u : ℕ). times d (plus x (get_or nodes i 0)) u) two (rw e (rest_less j x (omega arith) k))
+  inner_less j x y h k e = ap (times d (plus x (get_or nodes (j - 1 - 1) 0))) (rw e (rest_less j x (omega arith) k))
 
-module _ {d : ℕ} {table xs nodes us e : List ℕ} {at : ℕ} (g : Evaluating d table xs nodes us e at) where
+module _ {d : ℕ} (good : bad_degree d ≡ false) {xs nodes us e : List ℕ} {at : ℕ} (g : Evaluating d xs nodes us e at) where
   pub values_start : {s : List ℕ} → s ≡ patch at (length xs) (λ i. 0) e → s ≡ lay at (map (inner d nodes us (length us)) xs) s
   values_start {s} is =
       let f = inner d nodes us (length us) in
       let first : s ≡ lay at (map f xs) e =
-      patch-map at xs e g.room (λ i. 0) f is (λ i h. sym (inner_start d g.lent.degree nodes us g.enough (get_or xs i 0))) in
+      patch-map at xs e g.room (λ i. 0) f is (λ i h. sym (inner_start d good nodes us g.enough (get_or xs i 0))) in
       first ∙ sym (lay_again_map at xs e g.room f f first)
 
   -- l being the cleared list
@@ -113,15 +111,15 @@ module _ {d : ℕ} {table xs nodes us e : List ℕ} {at : ℕ} (g : Evaluating d
 
     pub values_in : (j : ℕ) {s : List ℕ} → s ≡ lay at (map (inner d nodes us j) xs) l → SymbolsAt d s at (length xs)
     values_in j is i h =
-        rw (get_or-lay-map at xs l fits (inner d nodes us j) is i h) (inner_in d g.lent.degree nodes us g.enough j (get_or xs i 0))
+        rw (get_or-lay-map at xs l fits (inner d nodes us j) is i h) (inner_in d good nodes us g.enough j (get_or xs i 0))
 
     pub values_step : (j : ℕ) {s t : List ℕ} → 1 < j → j ≤ length us → s ≡ lay at (map (inner d nodes us j) xs) l
-        → t ≡ multiplied_at d xs (get_or nodes (j - 2) 0) s at (get_or us (j - 1) 0) → t ≡ lay at (map (inner d nodes us (j - 1)) xs) l
+        → t ≡ multiplied_at d xs (get_or nodes (j - 1 - 1) 0) s at (get_or us (j - 1) 0) → t ≡ lay at (map (inner d nodes us (j - 1)) xs) l
     unfolding multiplied
     values_step j {s} h k is then =
         let f = inner d nodes us j in
         patch-map at xs s (values_fit j is) _ _ then
-        (λ i m. inner_less d g.lent.degree nodes us g.enough j _ (get_or s (at + i) 0) h k (get_or-lay-map at xs l fits f is i m))
+        (λ i m. inner_less d good nodes us g.enough j _ (get_or s (at + i) 0) h k (get_or-lay-map at xs l fits f is i m))
         ∙ lay_again_map at xs l fits f _ is
 
     pub values_end : {j : ℕ} {s t : List ℕ} → j ≡ 1 → s ≡ lay at (map (inner d nodes us j) xs) l
@@ -132,8 +130,8 @@ module _ {d : ℕ} {table xs nodes us e : List ℕ} {at : ℕ} (g : Evaluating d
         let z : ℕ → ℕ = λ x. 0 in
         let is : s ≡ lay at (map f xs) l = was ∙ ap (λ (i : ℕ). lay at (map (inner d nodes us i) xs) l) one in
         let less : (x : ℕ) → plus (f x) (get_or us 0 0) ≡ v x =
-        λ x. rest_less d g.lent.degree nodes us g.enough 1 x (omega arith) g.some
-        ∙ rest_whole d g.lent.degree nodes us g.enough x in
+        λ x. rest_less d good nodes us g.enough 1 x (omega arith) g.some
+        ∙ rest_whole d good nodes us g.enough x in
         patch-map at xs s (values_fit 1 is) _ v then (λ i m. rw (get_or-lay-map at xs l fits f is i m) (less (get_or xs i 0)))
         ∙ (lay_again_map at xs l fits f v is ∙ lay_again_map at xs e g.room z v (patch-map at xs e g.room _ z cleared (λ i m. refl)))
 

@@ -5,3 +5,4 @@ pub mod Evaluation
 pub mod Newton
 pub mod Reduced
 pub mod Pieces
+mod Written

@@ -3,16 +3,18 @@
 --   take-map        the front of a list of values
 --   front_values    the values at the points, which stand at the front of those at the rounded list
 --   rounded_in      the rounded list has symbols
---   more_values     the values at the first points, when some more are there
+--   Evaluated       what the loop has when it comes to point i
+--   none_evaluated, more_evaluated, all_evaluated    before the first turn; a turn; what the loop leaves
 -- Assumes nothing.
 use mathlib.Core.Path.{◌≡◌, refl, sym, ap, ◌∙◌}
 use mathlib.Core.List.{List, [], ◌∷◌, ◌++◌, map, map-append}
-use Prim.Native.Nat.{ℕ, zero, suc, ◌+◌, ◌-◌, ◌≤◌}
+use Prim.Native.Nat.{ℕ, zero, suc, min, ◌+◌, ◌≤◌, ◌<◌}
 use native.Mathlib.Omega.{arith}
-use lib.ListN.{length, take, drop, replicate, length-map, length-replicate}
+use lib.ListN.{length, take, drop, replicate, length-map, length-take, length-drop, length-replicate}
 use lib.Seq.{length-take-le, take-take, take-add}
 use Rattle.patch.specs.Parts.{part, lay}
-use Rattle.patch.proofs.Parts.{length-lay, take-lay, lay_behind}
+use Rattle.std.proofs.lemmas.List.{drop-drop, drop_at, drop_min, take_all, take_at, take_min}
+use Rattle.patch.proofs.Parts.{length-lay, take-lay, lay_behind, lay_none}
 use Rattle.field.specs.Symbols.{IsSymbol}
 use Rattle.poly.specs.Poly.{All}
 use Rattle.rows.proofs.Symbols.{symbols_part, symbols_held}
@@ -42,14 +44,44 @@ module _ (xs : List ℕ) (n m : ℕ) {ys : List ℕ} (held : ys ≡ lay 0 xs (re
       sym (take-take (length xs) m vs enough) ∙ ap (take (length xs)) first ∙ take-map f (length xs) (take m ys)
       ∙ ap (map f) (take-take (length xs) m ys enough ∙ take-lay xs (replicate n 0) held refl (omega arith))
 
-module _ (f : ℕ → ℕ) (xs : List ℕ) (at : ℕ) (l : List ℕ) where
-  pub more_values : (i n : ℕ) {s t : List ℕ} → i + n ≤ length xs → at + length xs ≤ length l → s ≡ lay at (map f (take i xs)) l
-      → t ≡ lay (at + i) (map f (take (i + n - i) (drop i xs))) s → t ≡ lay at (map f (take (i + n) xs)) l
-  more_values i n {s} {t} fits room is then =
-      let e : i + n - i ≡ n = omega arith in
-      let whole : map f (take (i + n) xs) ≡ map f (take i xs) ++ map f (take n (drop i xs)) =
-      ap (map f) (take-add i n xs) ∙ map-append f (take i xs) (take n (drop i xs)) in
-      let size : length (map f (take i xs)) ≡ i = length-map (take i xs) f ∙ length-take-le i xs (omega arith) in
-      let all : length (map f (take (i + n) xs)) ≡ i + n = length-map (take (i + n) xs) f ∙ length-take-le (i + n) xs fits in
-      then ∙ rw e (lay_behind at (map f (take i xs)) (map f (take n (drop i xs))) l size is (rw (← whole, all) (omega arith)))
-      ∙ ap (λ (v : List ℕ). lay at v l) (sym whole)
+-- the values at the first i points are laid in s, and the other points are left
+pub record Evaluated (f : ℕ → ℕ) (xs : List ℕ) (at : ℕ) (l : List ℕ) (i : ℕ) (left s : List ℕ) : Type 0 where
+  pub left_is : left ≡ drop i xs
+  pub laid : s ≡ lay at (map f (take i xs)) l
+
+module _ {f : ℕ → ℕ} {xs : List ℕ} {at : ℕ} {l : List ℕ} where
+  pub none_evaluated : Evaluated f xs at l 0 xs l
+  none_evaluated = record { left_is = refl; laid = sym (lay_none at l) }
+
+  module _ {i : ℕ} {left s : List ℕ} (was : Evaluated f xs at l i left s) (fits : at + length xs ≤ length l) where
+    pub all_evaluated : length left ≡ 0 → s ≡ lay at (map f xs) l
+    all_evaluated none = was.laid ∙ ap (λ (v : List ℕ). lay at (map f v) l)
+        (take_all i xs (omega (arith, ap length was.left_is, length-drop i xs)))
+
+    -- the next n points, or as many as are left
+    module _ (n : ℕ) (some rest : List ℕ) (is : left ≡ some ++ rest) (size : length some ≡ min n (length left)) where
+      next_points : some ≡ take n (drop i xs)
+      next_points =
+          let first : take (min n (length left)) left ≡ some = rw (← size, is) (take_at some rest (length some) refl) in
+          sym first ∙ take_min n left ∙ ap (take n) was.left_is
+
+      next_left : rest ≡ drop (i + n) xs
+      next_left =
+          let behind : drop (min n (length left)) left ≡ rest = rw (← size, is) (drop_at some rest (length some) refl) in
+          sym behind ∙ drop_min n left ∙ ap (drop n) was.left_is ∙ drop-drop n i xs
+
+      pub more_evaluated : 0 < length left → {t : List ℕ} → t ≡ lay (at + i) (map f some) s → Evaluated f xs at l (i + n) rest t
+      more_evaluated h {t} then = record { left_is = next_left; laid = then ∙ rw next_points together ∙ ap (λ (v : List ℕ). lay at v l) (sym whole) }
+        where
+          within : i ≤ length xs
+          within = omega (arith, ap length was.left_is, length-drop i xs)
+
+          more : List ℕ
+          more = take n (drop i xs)
+
+          whole : map f (take (i + n) xs) ≡ map f (take i xs) ++ map f more
+          whole = ap (map f) (take-add i n xs) ∙ map-append f (take i xs) more
+
+          together : lay (at + i) (map f more) s ≡ lay at (map f (take i xs) ++ map f more) l
+          together = lay_behind at (map f (take i xs)) (map f more) l (length-map (take i xs) f ∙ length-take-le i xs within) was.laid
+              (rw (← whole, length-map, length-take) (omega arith))

@@ -1,29 +1,25 @@
 -- Inverses that are taken once for several rows.
 --
 --   no_rounds, more_rounds    the table of all rounds begins empty, and takes a round
---   length_lent, lent_symbols, lent_inverses    what it has of a round, and what is behind that
+--   length_lent, lent_inverses    what it has of a round
 --   Sharing, Shared d xs l j s    what k rounds by lent inverses ask for, and what j of them leave
---   none_shared, next_shared, one_shared    before the first, what one asks for, and what it leaves
---   sixteens n j      how many symbols round j takes
+--   none_shared, one_shared   before the first, and what one leaves
 --   fewer_rounds, fewer_points    it serves shorter rows, and rows over the first of its points
 -- Assumes nothing.
 use mathlib.Core.Path.{◌≡◌, refl, sym, ap, ◌∙◌}
 use mathlib.Core.Bool.{false}
 use mathlib.Core.List.{List}
-use Prim.Native.Nat.{ℕ, ◌+◌, ◌-◌, ◌*◌, ◌/◌, ◌≤◌, ◌<◌}
-use native.Mathlib.Nat.{zero-add}
+use Prim.Native.Nat.{ℕ, ◌+◌, ◌-◌, ◌*◌, ◌%◌, ◌≤◌, ◌<◌}
 use native.Mathlib.Decide.{dec_lt}
 use native.Mathlib.Omega.{arith}
 use lib.ListN.{length, get_or, take, drop, length-drop}
-use lib.Pow.{pow_pos}
 use lib.Seq.{length-take-le, get_or-take, get_or-drop}
 use Rattle.patch.specs.Patch.{patch}
 use Rattle.patch.proofs.Laws.{length-patch, get_or-patch, get_or-patch_below}
 use Rattle.refusal.specs.Refusal.{bad_degree}
 use Rattle.field.specs.Symbols.{IsSymbol}
 use Rattle.field.specs.Arithmetic.{gf}
-use Rattle.field.specs.Working.Tables.{Lent}
-use Rattle.lists.specs.Working.Lists.{multiplied_at, SymbolsAt, Multiplying}
+use Rattle.lists.specs.Working.Lists.{multiplied_at, SymbolsAt}
 use Rattle.poly.specs.Poly.{All}
 use Rattle.poly.proofs.Forms.{reduce}
 use Rattle.rows.specs.Working.Rows.{Points, Inverses, inverse}
@@ -68,10 +64,6 @@ module _ (d : ℕ) (xs : List ℕ) where
       get_or_lent : (i : ℕ) → i < m → get_or lent i 0 ≡ get_or ws (96 * j + i) 0
       get_or_lent i g = get_or-take m (drop (96 * j) ws) i 0 g ∙ get_or-drop (96 * j) ws i 0
 
-      pub lent_symbols : SymbolsAt d lent 0 (length lent)
-      lent_symbols i g = rw (zero-add i, get_or_lent i (omega (arith, length_lent)))
-          (symbol_at d ws (96 * j + i) all.symbols (omega (arith, length_lent, all.room)))
-
       pub lent_inverses : length xs ≤ j + 1 + m → (i : ℕ) → i < length xs - (j + 1) → get_or lent i 0 ≡ inverse d xs j i
       lent_inverses enough i g = get_or_lent i (omega arith) ∙ all.each j i h g
 
@@ -89,17 +81,8 @@ module _ (d : ℕ) (xs : List ℕ) where
               ∙ sym (rw (get_or-take m xs (j + 1 + i) 0 (omega arith), get_or-take m xs j 0 (omega arith)));
         }
 
--- how many symbols the sixteens of round j have, as the code cuts them out
-abbrev pub sixteens : ℕ → ℕ → ℕ
-sixteens n j = 96 * j + (n - (j + 1) + 15) / 16 * 16 - 96 * j
-
--- they are within the places of the round's inverses, reach the end of the row, and end at most 15 symbols behind it
-sixteens_fit : (n j : ℕ) → j < n → n ≤ 96 → (sixteens n j ≤ 96) × (n ≤ j + 1 + sixteens n j) × (j + 1 + sixteens n j ≤ n + 15)
-sixteens_fit n j h most = (omega arith, omega arith, omega arith)
-
 -- k rounds of the row at the front of l, by the inverses ws
-pub record Sharing (d : ℕ) (t xs : List ℕ) (k : ℕ) (ws l : List ℕ) : Type 0 where
-  pub lent : Lent d t
+pub record Sharing (d : ℕ) (xs : List ℕ) (k : ℕ) (ws l : List ℕ) : Type 0 where
   pub points : Points d xs
   pub rounds : k ≤ length xs
   pub few : length xs ≤ 96
@@ -117,35 +100,22 @@ pub none_shared : (d : ℕ) (xs l : List ℕ) → SymbolsAt d l 0 (length xs + 1
 unfolding reduce
 none_shared d xs l symbols = record { long = refl; symbols = symbols; row = refl }
 
-module _ {d : ℕ} {t xs : List ℕ} {k : ℕ} {ws l : List ℕ} (given : Sharing d t xs k ws l)
-    {j : ℕ} {s : List ℕ} (turn : Shared d xs l j s) (more : j < k) where
-  fit : (sixteens (length xs) j ≤ 96) × (length xs ≤ j + 1 + sixteens (length xs) j) × (j + 1 + sixteens (length xs) j ≤ length xs + 15)
-  fit = sixteens_fit (length xs) j (omega (arith, given.rounds)) given.few
-
-  abbrev pub shared : List ℕ
-  shared = take (sixteens (length xs) j) (drop (96 * j) ws)
-
-  size : length shared ≡ sixteens (length xs) j
-  size = length_lent d xs given.inverses j _ more fit.0
-
-  pub next_shared : Multiplying d shared 0 s (j + 1) (get_or s j 0)
-  next_shared = record {
-    degree = given.lent.degree;
-    left = pow_pos d;
-    right = rw zero-add at (turn.symbols j (omega (arith, given.rounds)));
-    room = omega (arith, size, fit.2, given.room, turn.long);
-    factors = lent_symbols d xs given.inverses j _ more fit.0;
-    symbols = λ i h. rw zero-add at (turn.symbols (j + 1 + i) (omega (arith, size, fit.2)));
-  }
-
-  pub one_shared : {r : List ℕ} → r ≡ multiplied_at d shared 0 s (j + 1) (get_or s j 0) → Shared d xs l (j + 1) r
-  one_shared then =
-      let inverses = lent_inverses d xs given.inverses j _ more fit.0 fit.1 in
-      record {
-        long = ap length then ∙ length-patch _ _ _ _ ∙ turn.long;
-        symbols = front_symbols d given.lent.degree j s shared then _
-            (omega (arith, size, fit.2, given.room, turn.long)) turn.symbols;
-        row = front_step d given.lent.degree j s shared then xs _ (length-take-le _ l (omega (arith, given.room)))
-            (omega (arith, given.rounds)) (omega (arith, size, fit.1)) given.points
-            (λ i h. turn.symbols i (omega arith)) inverses turn.row;
-      }
+-- a round by whole sixteens, which reach the end of the row, and end at most 15 symbols behind it
+pub one_shared : {d : ℕ} → bad_degree d ≡ false → {xs : List ℕ} {k : ℕ} {ws l : List ℕ} (given : Sharing d xs k ws l) {j : ℕ} {s : List ℕ}
+    → Shared d xs l j s → j < k → (whole : ℕ) → length xs - (j + 1) ≤ whole → whole < length xs - (j + 1) + 16 → whole % 16 ≡ 0
+    → {r : List ℕ} → r ≡ multiplied_at d (take (96 * j + whole - 96 * j) (drop (96 * j) ws)) 0 s (j + 1) (get_or s j 0)
+    → Shared d xs l (j + 1) r
+one_shared {d} good {xs} {k} {ws} {l} given {j} {s} turn more whole enough few sixteens {r} then =
+    let place : j < length xs = omega (arith, given.rounds) in
+    let within : whole ≤ 96 = omega (arith, given.few) in
+    let shared : List ℕ = take whole (drop (96 * j) ws) in
+    let size : length shared ≡ whole = length_lent d xs given.inverses j whole more within in
+    let cut : 96 * j + whole - 96 * j ≡ whole = omega arith in
+    let is : r ≡ multiplied_at d shared 0 s (j + 1) (get_or s j 0) = rw cut at then in
+    let inverses = lent_inverses d xs given.inverses j whole more within (omega arith) in
+    record {
+      long = ap length is ∙ length-patch _ _ _ _ ∙ turn.long;
+      symbols = front_symbols d good j s shared is _ (omega (arith, size, given.room, turn.long)) turn.symbols;
+      row = front_step d good j s shared is xs _ (length-take-le _ l (omega (arith, given.room)))
+          place (omega (arith, size)) given.points (λ i h. turn.symbols i (omega arith)) inverses turn.row;
+    }

@@ -3,7 +3,6 @@
 --   symbol_at, symbols_by    what stands at a place of a list of symbols is a symbol; and the other way round
 --   symbols_whole            a list of symbols as a part
 --   symbols_part             a part that has symbols is a list of them
---   symbols_lay              where a list of symbols was laid there are symbols
 --   symbol-patch             a patch of symbols leaves symbols at every place
 --   symbols_over             a row of symbols laid over symbols
 --   symbols_zeros, symbols_held    zeros are symbols; a row of symbols that is held in an array of zeros
@@ -19,7 +18,7 @@ use lib.Pow.{pow_pos}
 use Rattle.patch.specs.Patch.{patch}
 use Rattle.patch.specs.Parts.{part, lay}
 use Rattle.patch.proofs.Laws.{get_or-patch, get_or-patch_below, get_or-patch_above}
-use Rattle.patch.proofs.Parts.{length_part, get_d_part, get_or-lay}
+use Rattle.patch.proofs.Parts.{length_part, get_d_part}
 use Rattle.field.specs.Symbols.{IsSymbol}
 use Rattle.lists.specs.Working.Lists.{SymbolsAt}
 use Rattle.poly.specs.Poly.{All}
@@ -41,10 +40,6 @@ module _ (d : ℕ) where
   symbols_part at n l fits s =
       let size : length (part at n l) ≡ n = length_part at n l fits in
       symbols_by (part at n l) (λ i h. rw (get_d_part at n l i (omega arith)) (s i (omega arith)))
-
-  pub symbols_lay : (at : ℕ) (v l : List ℕ) {n : ℕ} {s : List ℕ} → s ≡ lay at v l → length v ≡ n → at + n ≤ length l
-      → All (IsSymbol d) v → SymbolsAt d s at n
-  symbols_lay at v l is e fits a k h = rw (is, get_or-lay at v l k (omega arith) (omega arith)) (symbol_at v k a (omega arith))
 
   pub symbol-patch : (at n : ℕ) (f : ℕ → ℕ) (l : List ℕ) {s : List ℕ} → s ≡ patch at n f l → at + n ≤ length l
       → ((k : ℕ) → k < n → f k < 2 ^ d) → (i : ℕ) → get_or l i 0 < 2 ^ d → get_or s i 0 < 2 ^ d

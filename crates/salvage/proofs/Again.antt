@@ -98,7 +98,7 @@ never e = let z : ◌≡◌ {A = ℕ} 0 1 = cc in omega arith
 
 kept_by : (b old new : List ℕ) (e : Ending) (a : List ℕ) → Ended b (e, a) → kept old new ≡ piece_of b e a → KeptAt b old new
 unfolding stop_of
-kept_by b old new (Refused k) a h is = absurd (never is)
+kept_by b old new (Refused r) a h is = absurd (never is)
 kept_by b old new (Corrected w) a h is = told (stop_checks b) _ _ (Corrected w, a) h
     (λ none (f, s, d). record {
       whole = sym none;

@@ -17,6 +17,8 @@ use native.Mathlib.Omega.{arith}
 use lib.ListN.{length, length-append, length-drop}
 use lib.Seq.{drop-append_seam}
 use borrow.Author.Tests.{eq-eqb}
+use Rattle.refusal.specs.Numbers.{named}
+use Rattle.refusal.specs.declared.Refusal.{Refusal}
 use Rattle.refusal.proofs.Keeping.{told}
 use Rattle.poly.specs.Poly.{All}
 use Rattle.codes.specs.Code.{wrong_count}
@@ -39,10 +41,10 @@ use Rattle.salvage.proofs.Unique.{pieces_unique}
 use Rattle.salvage.proofs.Again.{KeptAt, kept_at, array_long, new_is_front, new_long, old_long, kept_again}
 
 -- a record that is not refused is whole
-pub whole_by : (b : List ℕ) (e : Ending) (a : List ℕ) → Ended b (e, a) → ((k : ℕ) → e ≡ Refused k → ⊥) → stop_of b ≡ 0
+pub whole_by : (b : List ℕ) (e : Ending) (a : List ℕ) → Ended b (e, a) → ((r : Refusal) → e ≡ Refused r → ⊥) → stop_of b ≡ 0
 unfolding stop_of
 whole_by b e a h not = told (stop_checks b) _ _ (e, a) h (λ none d. sym none)
-    (λ k s d. absurd (not (suc k) (ap (λ (x : Ending × List ℕ). x.0) d)))
+    (λ k s d. absurd (not (named (suc k)) (ap (λ (x : Ending × List ℕ). x.0) d)))
 
 some_byte : (b : List ℕ) → (b ≡ [] → ⊥) → 1 ≤ length b
 some_byte [] n = absurd (n refl)
@@ -53,13 +55,13 @@ whole_fits b z = (omega (arith, size-some b), (whole_of b z).complete)
 
 fits_by : (b : List ℕ) (e : Ending) (a : List ℕ) → (b ≡ [] → ⊥) → Ended b (e, a)
     → (1 ≤ size (piece_of b e a)) × (size (piece_of b e a) ≤ length b)
-fits_by b (Refused k) a some h = (omega arith, some_byte b some)
+fits_by b (Refused r) a some h = (omega arith, some_byte b some)
 fits_by b (Corrected w) a some h =
-    let z = whole_by b (Corrected w) a h (λ k e. let z : ◌≡◌ {A = ℕ} 0 1 = cc in omega arith) in
+    let z = whole_by b (Corrected w) a h (λ r e. let z : ◌≡◌ {A = ℕ} 0 1 = cc in omega arith) in
     rw (size_long b z) (whole_fits b z)
-fits_by b Nothing a some h = whole_fits b (whole_by b Nothing a h (λ k e. let z : ◌≡◌ {A = ℕ} 0 1 = cc in omega arith))
-fits_by b (Several t) a some h = whole_fits b (whole_by b (Several t) a h (λ k e. let z : ◌≡◌ {A = ℕ} 0 1 = cc in omega arith))
-fits_by b (Hollow t) a some h = whole_fits b (whole_by b (Hollow t) a h (λ k e. let z : ◌≡◌ {A = ℕ} 0 1 = cc in omega arith))
+fits_by b Nothing a some h = whole_fits b (whole_by b Nothing a h (λ r e. let z : ◌≡◌ {A = ℕ} 0 1 = cc in omega arith))
+fits_by b (Several t) a some h = whole_fits b (whole_by b (Several t) a h (λ r e. let z : ◌≡◌ {A = ℕ} 0 1 = cc in omega arith))
+fits_by b (Hollow t) a some h = whole_fits b (whole_by b (Hollow t) a h (λ r e. let z : ◌≡◌ {A = ℕ} 0 1 = cc in omega arith))
 
 pub front_fits : {b : List ℕ} {p : Piece} → (b ≡ [] → ⊥) → AtFront b p → (1 ≤ size p) × (size p ≤ length b)
 front_fits {b} some h = rw h.is (fits_by b h.ending h.array some h.ended)

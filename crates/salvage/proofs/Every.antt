@@ -11,6 +11,7 @@ use native.Mathlib.Omega.{arith}
 use native.Mathlib.Nat.{le_refl}
 use lib.ListN.{length, drop, length-drop}
 use Rattle.refusal.specs.Refusal.{first}
+use Rattle.refusal.specs.Numbers.{named}
 use Rattle.refusal.proofs.Keeping.{refuses, does}
 use Rattle.codes.specs.Factors.{divided}
 use Rattle.codes.proofs.Passed.{decoding}
@@ -19,7 +20,7 @@ use Rattle.ending.specs.declared.Ending.{Ending}
 use Rattle.ending.specs.declared.Ending.TheVariants.{Refused}
 use Rattle.ending.proofs.Model.{decided}
 use Rattle.ending.proofs.ModelEnds.{model_ends}
-use Rattle.joint.specs.Promises.{Given, Left, Decodes, checks_of}
+use Rattle.joint.specs.Promises.{Given, Left, left, Decodes, checks_of}
 use Rattle.joint.proofs.Promised as promised
 use Rattle.record.specs.Records.{stop_checks}
 use Rattle.record.specs.Promises.{record_in, fresh}
@@ -36,7 +37,7 @@ decodes_by g zero none =
       promised.leaves (checks_of g) g.lent g.space _ none o.0 _ _
           (record { answer = o.1; ends = model_ends p.array.proper q g.limit p.limit g.lent; back = refl }) refl,
     )
-decodes_by g (suc k) e = (_, promised.refuses (checks_of g) g.lent g.space _ e (λ z. omega arith))
+decodes_by g (suc k) e = (_, refuses (checks_of g) (λ k. left (Refused (named k)) g.lent g.space) _ e (λ z. omega arith))
 
 pub decodes_some : (g : Given) → (l : Left) × Decodes g l
 decodes_some g = decodes_by g (first (checks_of g)) refl
@@ -45,7 +46,7 @@ ended_by : (b : List ℕ) (k : ℕ) → k ≡ first (stop_checks b) → (l : End
 ended_by b zero none =
     let (l, d) = decodes_some (record_in fresh b) in
     ((l.ending, l.buffers.array), does (stop_checks b) _ _ (l.ending, l.buffers.array) none (l.buffers.flags, l.space, d))
-ended_by b (suc k) e = ((Refused (suc k), []), refuses (stop_checks b) _ _ e (λ z. omega arith))
+ended_by b (suc k) e = ((Refused (named (suc k)), []), refuses (stop_checks b) _ _ e (λ z. omega arith))
 
 pub front_some : (b : List ℕ) → (p : Piece) × AtFront b p
 front_some b =

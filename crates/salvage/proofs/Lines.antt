@@ -4,6 +4,7 @@
 --   number_short      a number of 64 bits has at most 20 digits; column_short, one below 1,000 takes four bytes with what stands before it
 --   Changed n old new out₀ at out end i    the loop over the symbols: the changes of those before symbol i are written
 --   changed_begin, changed_same, changed_put, changed_end    its turns
+--   next_symbol, all_read    what is left of a list from place i on: its first, and the others; none
 -- Assumes nothing.
 use mathlib.Core.Path.{◌≡◌, sym, ap, ap₂, ◌∙◌}
 use mathlib.Core.Bool.{cond}
@@ -13,10 +14,11 @@ use native.Mathlib.Nat.{add-zero, add-suc, suc-add}
 use native.Mathlib.Numerals.{add-one}
 use native.Mathlib.Omega.{arith}
 use lib.Dec.{eqb}
-use lib.ListN.{length, get_or, take, length-append}
+use lib.ListN.{length, get_or, take, drop, length-append, length-drop}
 use lib.Seq.{length-take-le, take-suc, take_all}
 use borrow.Author.Tests.{eq-eqb, ne_eqb}
-use Rattle.patch.proofs.Parts.{lay_none, length-lay}
+use Rattle.std.proofs.lemmas.List.{drop_more}
+use Rattle.patch.proofs.Parts.{lay_none}
 use Rattle.record.specs.Lines.{decimal}
 use Rattle.record.specs.Working.{Puts, PutsWithin}
 use Rattle.record.proofs.Decimals.{decimal_short}
@@ -39,6 +41,16 @@ number_short n h = decimal_short 19 n (omega arith)
 
 pub column_short : (g n : ℕ) → n < 1000 → length (g ∷ decimal n) ≤ 4
 column_short g n h = omega (arith, decimal_short 2 n (omega arith))
+
+pub next_symbol : (l : List ℕ) (i : ℕ) {r r' : List ℕ} {x : ℕ} → r ≡ drop i l → r ≡ x ∷ r'
+    → (i < length l) × (get_or l i 0 ≡ x) × (r' ≡ drop (i + 1) l)
+next_symbol l i p q =
+    let h : i < length l = omega (arith, length-drop i l, ap length p, ap length q) in
+    let e = drop_more l i 0 h in
+    (h, cc, cc)
+
+pub all_read : (l : List ℕ) (i : ℕ) {r : List ℕ} → r ≡ drop i l → length r ≡ 0 → length l ≤ i
+all_read l i p z = omega (arith, length-drop i l, ap length p)
 
 -- one symbol's change, none where it is the same
 one : (n i a b : ℕ) → List ℕ
@@ -74,9 +86,6 @@ module _ {n : ℕ} {old new : List ℕ} (s : Symbols n old new) {out₀ : List �
   }
 
   module _ {out : List ℕ} {end i : ℕ} (c : Changed n old new out₀ at out end i) where
-    pub changed_long : length out ≡ length out₀
-    changed_long = ap length c.puts.laid ∙ length-lay at _ out₀
-
     next : i < length old → so_far n old new (i + 1) ≡ so_far n old new i ++ one n i (get_or old i 0) (get_or new i 0)
     unfolding so_far
     next h =

@@ -21,6 +21,7 @@ use Rattle.record.specs.Counts.{Counts}
 use Rattle.patch.specs.Parts.{part, lay}
 use Rattle.patch.proofs.Parts.{lay_none, length-lay}
 use Rattle.refusal.specs.Meaning.{Meaning, number_of, detail_of}
+use Rattle.refusal.specs.Numbers.{named}
 use Rattle.refusal.proofs.Keeping.{refuses, does}
 use Rattle.ending.specs.declared.Ending.{Ending}
 use Rattle.ending.specs.declared.Ending.TheVariants.{Refused}
@@ -176,7 +177,7 @@ module _ (at : ℕ) (lent : Rooms) where
   pub found_failed : (b : List ℕ) {k : ℕ} → (length b ≡ 0 → ⊥) → k ≡ stop_of b → (k ≡ 0 → ⊥) → Finds at b lent (Skipped 1) lent
   unfolding stop_of
   found_failed b {k} some e z = found_by b (Skipped 1) some
-      (record { ending = Refused k; array = []; ended = refuses (stop_checks b) _ _ e z; is = refl }) refl
+      (record { ending = Refused (named k); array = []; ended = refuses (stop_checks b) _ _ e z; is = refl }) refl
 
   pub found_decided : (b : List ℕ) (r : Found) {left : Rooms} → (length b ≡ 0 → ⊥) → stop_of b ≡ 0 → Decided fresh at b lent r left
       → Finds at b lent r left

@@ -66,16 +66,16 @@ module _ (p rest : List ℕ) where
         ∙ enough.part p rest w.five 2 (4 + rows_in p + columns_in p) (omega (arith, w.complete)))
 
   same_piece : (e : Ending) (a : List ℕ) → Ended p (e, a) → piece_of p e a ≡ piece_of (p ++ rest) e a
-  same_piece (Refused k) a h = refl
+  same_piece (Refused r) a h = refl
   same_piece (Corrected w) a h =
-      let z = whole_by p (Corrected w) a h (λ k e. let z : ◌≡◌ {A = ℕ} 0 1 = cc in omega arith) in
+      let z = whole_by p (Corrected w) a h (λ r e. let z : ◌≡◌ {A = ℕ} 0 1 = cc in omega arith) in
       ap₂ kept (sym (same_front z)) (sym (same_rewritten z a))
   same_piece Nothing a h =
-      ap skipped (sym (same_size (whole_by p Nothing a h (λ k e. let z : ◌≡◌ {A = ℕ} 0 1 = cc in omega arith))))
+      ap skipped (sym (same_size (whole_by p Nothing a h (λ r e. let z : ◌≡◌ {A = ℕ} 0 1 = cc in omega arith))))
   same_piece (Several t) a h =
-      ap skipped (sym (same_size (whole_by p (Several t) a h (λ k e. let z : ◌≡◌ {A = ℕ} 0 1 = cc in omega arith))))
+      ap skipped (sym (same_size (whole_by p (Several t) a h (λ r e. let z : ◌≡◌ {A = ℕ} 0 1 = cc in omega arith))))
   same_piece (Hollow t) a h =
-      ap skipped (sym (same_size (whole_by p (Hollow t) a h (λ k e. let z : ◌≡◌ {A = ℕ} 0 1 = cc in omega arith))))
+      ap skipped (sym (same_size (whole_by p (Hollow t) a h (λ r e. let z : ◌≡◌ {A = ℕ} 0 1 = cc in omega arith))))
 
   ended_on : wanted p ≤ length p → (l : Ending × List ℕ) → Ended p l → Ended (p ++ rest) l
   unfolding stop_of

@@ -12,6 +12,7 @@
 use Rattle.std.specs.Prelude.{◌≡◌, List, [], ◌∷◌, ◌++◌, ℕ, ◌+◌, length, take, drop}
 use Rattle.patch.specs.Parts.{part}
 use Rattle.refusal.specs.Keeping.{Keeps}
+use Rattle.refusal.specs.Numbers.{named}
 use Rattle.ending.specs.declared.Ending.{Ending}
 use Rattle.ending.specs.declared.Ending.TheVariants.{Refused, Corrected, Nothing, Several, Hollow}
 use Rattle.joint.specs.Promises.{Decodes, buffers, left}
@@ -33,7 +34,7 @@ rewritten b a = mark ++ part 2 (4 + rows_in b + columns_in b) b ++ a
 -- 'every record that decodes as "corrected"'; 'A mark whose record is refused or cut short has failed, and the search resumes one
 -- byte past the mark's first byte. Records ending "none", "several" or "hollow" are skipped whole.'
 abbrev pub piece_of : List ℕ → Ending → List ℕ → Piece
-piece_of b (Refused k) a = skipped 1
+piece_of b (Refused r) a = skipped 1
 piece_of b (Corrected w) a = kept (take (size_in b) b) (rewritten b a)
 piece_of b Nothing a = skipped (size_in b)
 piece_of b (Several t) a = skipped (size_in b)
@@ -42,7 +43,7 @@ piece_of b (Hollow t) a = skipped (size_in b)
 -- 'A mark whose record is refused or cut short': no mark, a record cut short, and r or n out of range are the record program's reasons
 -- to stop (01); where none applies there is a whole record, which is decoded
 abbrev pub Ended : List ℕ → Ending × List ℕ → Type 0
-Ended b = Keeps (stop_checks b) (λ k. (Refused k, []))
+Ended b = Keeps (stop_checks b) (λ k. (Refused (named k), []))
     (λ l. (flags space : List ℕ) × Decodes (record_in fresh b) (left l.0 (buffers l.1 flags) space))
 
 pub record AtFront (b : List ℕ) (p : Piece) : Type 0 where

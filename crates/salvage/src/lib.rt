@@ -10,7 +10,7 @@ ghost use Rattle.record.specs.Working.{Puts};
 ghost use Rattle.salvage.specs.Promises.{Finds, Lists, rooms};
 ghost use Rattle.salvage.specs.Working.{Advances, Decided, Keepable, Ready, Told, kept_with};
 
-use array_checks::{SPACE, wide};
+use array_checks::SPACE;
 use ending::Ending;
 use record::parts::MARK;
 use record::text::put_text;
@@ -41,8 +41,8 @@ fn keep(offset: u64, bytes: &[u8], array: &[u8], kept: &mut [u8], line: &mut [u8
     ensures { Told offset bytes.now (kept_with bytes.now array.now)
         (rooms kept.old line.old) result (rooms kept.new line.new) }
 {
-    let r = wide(bytes[3]);
-    let n = wide(bytes[4]);
+    let r = usize::from(bytes[3]);
+    let n = usize::from(bytes[4]);
     let symbols = 6 + r + n;
     let size = symbols + r * n;
     let old = &bytes[symbols..size];
@@ -77,10 +77,10 @@ pub fn next(offset: u64, bytes: &[u8], kept: &mut [u8; 490], line: &mut [u8; 619
         (rooms kept.new line.new) }
     ensures advances { Advances bytes.now result (rooms kept.new line.new) }
 {
-    if bytes.len() == 0 {
+    if bytes.is_empty() {
         return Found::End;
     }
-    if record::parts::stop(bytes) != 0 {
+    if record::parts::stop(bytes).is_err() {
         return Found::Skipped(1);
     }
     let mut space = [0u8; SPACE];

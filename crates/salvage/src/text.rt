@@ -1,11 +1,10 @@
 // The lines of the listing, written into a buffer.
-ghost use Rattle.std.specs.Prelude.{◌++◌, ◌+◌, ◌*◌, ◌<◌, ◌≤◌, length};
+ghost use Rattle.std.specs.Prelude.{◌++◌, ◌+◌, ◌*◌, ◌≤◌, length};
 ghost use Rattle.record.specs.Lines.{ascii};
 ghost use Rattle.record.specs.Working.{Puts, PutsWithin};
 ghost use Rattle.salvage.specs.Listing.{change, changes};
 ghost use Rattle.salvage.specs.Working.{Changing, Symbols, head};
 
-use array_checks::wide;
 use record::text::{put_column, put_number, put_text};
 
 // Writes the offset, a word and a length at the buffer's front.
@@ -26,8 +25,8 @@ fn put_change(out: &mut [u8], at: usize, n: usize, i: usize, old: u8, new: u8) -
 {
     let end = put_column(out, at, b' ', i / n);
     let end = put_column(out, end, b':', i % n);
-    let end = put_column(out, end, b':', wide(old));
-    put_column(out, end, b':', wide(new))
+    let end = put_column(out, end, b':', usize::from(old));
+    put_column(out, end, b':', usize::from(new))
 }
 
 // Writes the changed symbols of an array in n columns, one after the other.
@@ -37,12 +36,9 @@ fn put_changes(out: &mut [u8], at: usize, n: usize, old: &[u8], new: &[u8]) -> u
     ensures { PutsWithin 6144 out.old at (changes n 0 old.now new.now) out.new result }
 {
     let mut end = at;
-    let mut i = 0;
-    while i < old.len() {
-        let k = i;
-        i += 1;
-        if old[k] != new[k] {
-            end = put_change(out, end, n, k, old[k], new[k]);
+    for (i, (a, b)) in old.iter().zip(new).enumerate() {
+        if a != b {
+            end = put_change(out, end, n, i, *a, *b);
         }
     }
     end

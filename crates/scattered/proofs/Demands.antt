@@ -2,8 +2,8 @@
 --
 -- 'Nothing by halves.'
 --   refused_exactly     it is refused exactly when a check applies
---   refused_leaves      then its number is that of the first that does, of 10, 11, 18, 5, 7 and 19, and word, flags and working space
---                       are as lent
+--   refused_leaves      then the reason's number is that of the first that does, of 10, 11, 18, 5, 7 and 19, and word, flags and
+--                       working space are as lent
 --   as_lent             unless the ending is 'corrected', word and flags are as lent
 --   space_cleared       unless it is refused, the first 49,152 bytes of the working space are zero, those beyond as lent
 --
@@ -22,12 +22,14 @@ use mathlib.Core.Path.{◌≡◌, refl, ap}
 use mathlib.Core.Logic.{◌↔◌, ⊎_elim}
 use mathlib.Core.Bool.{true, false}
 use mathlib.Core.List.{List, [], ◌∷◌}
-use Prim.Native.Nat.{ℕ, suc, ◌*◌, ◌≤◌, ◌<◌}
+use Prim.Native.Nat.{ℕ, ◌*◌, ◌≤◌, ◌<◌}
 use native.Mathlib.Decide.{dec_le}
 use native.Mathlib.Omega.{arith}
 use lib.ListN.{get_or}
 use Rattle.refusal.specs.Refusal.{first}
 use Rattle.refusal.specs.Meaning.{number_of, detail_of}
+use Rattle.refusal.specs.Numbers.{number}
+use Rattle.refusal.specs.declared.Refusal.{Refusal}
 use Rattle.refusal.proofs.Ladders.{first_upto}
 use Rattle.poly.proofs.Roots.{Mem}
 use Rattle.codes.specs.Near.{Near, Far}
@@ -64,11 +66,14 @@ module _ (q m τ : ℕ) (y : List ℕ) (lent : Buffers) (space : List ℕ) where
   apart : (e e' : Ending) → e ≡ e' → ¬ ¬ (number_of (meaning e) ≡ number_of (meaning e'))
   apart e e' same n = n (ap (λ (x : Ending). number_of (meaning x)) same)
 
-  never : (k : ℕ) (b : Buffers) → ¬ Ended (Refused k) b
-  never k b h = h
+  in_table : first (checks_of q m τ y lent space) ≤ 26
+  in_table = first_upto 26 (checks_of q m τ y lent space) refl
+
+  never : (r : Refusal) (b : Buffers) → ¬ Ended (Refused r) b
+  never r b h = h
 
   others : (e : Ending) (b : Buffers) → Ended e b → ((w : ℕ) → ¬ (e ≡ Corrected w)) → b ≡ lent
-  others (Refused k) b h n = absurd h
+  others (Refused r) b h n = absurd h
   others (Corrected w) b h n = absurd (n w refl)
   others Nothing b h n = h.1
   others (Several t) b h n = absurd h
@@ -76,32 +81,33 @@ module _ (q m τ : ℕ) (y : List ℕ) (lent : Buffers) (space : List ℕ) where
 
   module _ (l : Joint.Left) (h : Decodes q m τ y lent space l) where
     pub refused_exactly : IsRefused l ↔ ¬ (first (checks_of q m τ y lent space) ≡ 0)
-    refused_exactly = halves.refused_exactly (checks_of q m τ y lent space) lent space Ended never l h
+    refused_exactly = halves.refused_exactly (checks_of q m τ y lent space) lent space Ended in_table never l h
 
-    pub refused_leaves : (k : ℕ) → l.ending ≡ Refused k
-        → (k ≡ first (checks_of q m τ y lent space)) × Mem k (10 ∷ 11 ∷ 18 ∷ 5 ∷ 7 ∷ 19 ∷ [])
+    pub refused_leaves : (r : Refusal) → l.ending ≡ Refused r
+        → (number r ≡ first (checks_of q m τ y lent space)) × Mem (number r) (10 ∷ 11 ∷ 18 ∷ 5 ∷ 7 ∷ 19 ∷ [])
         × (l.buffers ≡ lent) × (l.space ≡ space)
-    refused_leaves k e =
-        let (is, some, kept, kept-space) = halves.refused_leaves (checks_of q m τ y lent space) lent space Ended never l h k e in
+    refused_leaves r e =
+        let (is, some, kept, kept-space) = halves.refused_leaves (checks_of q m τ y lent space) lent space Ended in_table never l h r e in
         let one : Mem (first (checks_of q m τ y lent space)) (10 ∷ 11 ∷ 18 ∷ 5 ∷ 7 ∷ 19 ∷ []) =
         ⊎_elim (λ z. absurd (omega arith)) (λ i. i) (first_of (checks_of q m τ y lent space)) in
         (is, rw is one, kept, kept-space)
 
     pub as_lent : ¬ IsCorrected l → l.buffers ≡ lent
-    as_lent = halves.as_lent (checks_of q m τ y lent space) lent space Ended never l h others
+    as_lent = halves.as_lent (checks_of q m τ y lent space) lent space Ended in_table never l h others
 
     pub space_cleared : ¬ IsRefused l
         → ((i : ℕ) → i < space_bytes → get_or l.space i 0 ≡ 0) × ((i : ℕ) → space_bytes ≤ i → get_or l.space i 0 ≡ get_or space i 0)
-    space_cleared = halves.space_cleared (checks_of q m τ y lent space) lent space Ended never l h
+    space_cleared = halves.space_cleared (checks_of q m τ y lent space) lent space Ended in_table never l h
 
-    ended : (e : Ending) → l.ending ≡ e → ((k : ℕ) → ¬ (e ≡ Refused k)) → (0 ≡ first (checks_of q m τ y lent space)) × Ended e l.buffers
-    ended = halves.ended_as (checks_of q m τ y lent space) lent space Ended never l h
+    ended : (e : Ending) → l.ending ≡ e → ((r : Refusal) → ¬ (e ≡ Refused r))
+        → (0 ≡ first (checks_of q m τ y lent space)) × Ended e l.buffers
+    ended = halves.ended_as (checks_of q m τ y lent space) lent space Ended in_table never l h
 
     pub corrected-word : (w : ℕ) → l.ending ≡ Corrected w → Mends q m τ y w l.buffers
-    corrected-word w e = (ended (Corrected w) e (λ k x. apart (Corrected w) (Refused k) x (omega arith))).1
+    corrected-word w e = (ended (Corrected w) e (λ r x. apart (Corrected w) (Refused r) x (omega arith))).1
 
     pub none_far : l.ending ≡ Nothing → Far (RingWord q m) (wrong_symbols q y) τ
-    none_far e = (ended Nothing e (λ k x. apart Nothing (Refused k) x (omega arith))).1.0
+    none_far e = (ended Nothing e (λ r x. apart Nothing (Refused r) x (omega arith))).1.0
 
     pub only_word : (w : ℕ) → l.ending ≡ Corrected w → (b : List ℕ) → RingWord q m b → ¬ (b ≡ l.buffers.array)
         → τ < wrong_symbols q y b
@@ -111,18 +117,18 @@ module _ (q m τ : ℕ) (y : List ℕ) (lent : Buffers) (space : List ℕ) where
         go (no more) = omega arith
         go (yes le) =
             let h = corrected-word w e in
-            let p = passed q m τ y lent space (ended (Corrected w) e (λ k x. apart (Corrected w) (Refused k) x (omega arith))).0 in
+            let p = passed q m τ y lent space (ended (Corrected w) e (λ r x. apart (Corrected w) (Refused r) x (omega arith))).0 in
             absurd (other (unique_near q p.word.ring.size m p.word.ring.order y p.word.received τ p.room word h.word le
             (omega (arith, h.detail, h.within))))
 
     -- not refused, it ends 'corrected' or 'none'
     pub none_otherwise : ¬ IsRefused l → ¬ IsCorrected l → l.ending ≡ Nothing
-    none_otherwise not others = halves.by_number (checks_of q m τ y lent space) lent space Ended never l h
+    none_otherwise not others = halves.by_number (checks_of q m τ y lent space) lent space Ended in_table never l h
         (λ none d. go l.ending refl d.0)
-        (λ k some is. absurd (not (suc k, ap (λ (x : Joint.Left). x.ending) is)))
+        (λ r some is. absurd (not (r, ap (λ (x : Joint.Left). x.ending) is)))
       where
         go : (e : Ending) → l.ending ≡ e → Ended e l.buffers → l.ending ≡ Nothing
-        go (Refused k) is d = absurd d
+        go (Refused r) is d = absurd d
         go (Corrected w) is d = absurd (others (w, is))
         go Nothing is d = is
         go (Several t) is d = absurd d
@@ -131,27 +137,27 @@ module _ (q m τ : ℕ) (y : List ℕ) (lent : Buffers) (space : List ℕ) where
     pub corrected_exactly : ¬ IsRefused l → IsCorrected l ↔ Near (RingWord q m) (wrong_symbols q y) τ
     corrected_exactly not = (
       λ (w, e). let h = corrected-word w e in (l.buffers.array, h.word, omega (arith, h.detail, h.within)),
-      λ (v, word, near). halves.by_number (checks_of q m τ y lent space) lent space Ended never l h
+      λ (v, word, near). halves.by_number (checks_of q m τ y lent space) lent space Ended in_table never l h
           (λ none d. go v word near l.ending refl d.0)
-          (λ k some is. absurd (not (suc k, ap (λ (x : Joint.Left). x.ending) is))),
+          (λ r some is. absurd (not (r, ap (λ (x : Joint.Left). x.ending) is))),
     )
       where
         go : (v : List ℕ) → RingWord q m v → wrong_symbols q y v ≤ τ → (e : Ending) → l.ending ≡ e → Ended e l.buffers → IsCorrected l
-        go v word near (Refused k) is d = absurd d
+        go v word near (Refused r) is d = absurd d
         go v word near (Corrected w) is d = (w, is)
         go v word near Nothing is d = absurd (omega (arith, d.0 v word, near))
         go v word near (Several t) is d = absurd d
         go v word near (Hollow t) is d = absurd d
 
     pub detail_small : detail_of (meaning l.ending) < 256
-    detail_small = halves.by_number (checks_of q m τ y lent space) lent space Ended never l h
+    detail_small = halves.by_number (checks_of q m τ y lent space) lent space Ended in_table never l h
         (λ none d. go none l.ending d.0)
-        (λ k some is.
+        (λ r some is.
         let n = ap (λ (x : Joint.Left). detail_of (meaning x.ending)) is in
-        omega (arith, n, some, first_upto 19 (checks_of q m τ y lent space) refl))
+        omega (arith, n, some, in_table))
       where
         go : 0 ≡ first (checks_of q m τ y lent space) → (e : Ending) → Ended e l.buffers → detail_of (meaning e) < 256
-        go none (Refused k) d = absurd d
+        go none (Refused r) d = absurd d
         go none (Corrected w) d =
             let p = passed q m τ y lent space none in
             omega (

@@ -83,15 +83,15 @@ module _ (q m τ : ℕ) (y : List ℕ) (ring : Passed q m) (received : IsRing q 
     pub ends_unique : (e e' : Ending) (b b' : Buffers) → PitEnds q m τ y lent e b → PitEnds q m τ y lent e' b' → (e ≡ e') × (b ≡ b')
     ends_unique (Corrected w) (Corrected w') b b' h h' = same_mended h h'
     ends_unique (Corrected w) Nothing b b' h h' = not_both h h'.0
-    ends_unique (Corrected w) (Refused k) b b' h h' = absurd h'
+    ends_unique (Corrected w) (Refused r) b b' h h' = absurd h'
     ends_unique (Corrected w) (Several t) b b' h h' = absurd h'
     ends_unique (Corrected w) (Hollow t) b b' h h' = absurd h'
     ends_unique Nothing (Corrected w) b b' h h' = not_both h' h.0
     ends_unique Nothing Nothing b b' h h' = (refl, h.1 ∙ sym h'.1)
-    ends_unique Nothing (Refused k) b b' h h' = absurd h'
+    ends_unique Nothing (Refused r) b b' h h' = absurd h'
     ends_unique Nothing (Several t) b b' h h' = absurd h'
     ends_unique Nothing (Hollow t) b b' h h' = absurd h'
-    ends_unique (Refused k) e' b b' h h' = absurd h
+    ends_unique (Refused r) e' b b' h h' = absurd h
     ends_unique (Several t) e' b b' h h' = absurd h
     ends_unique (Hollow t) e' b b' h h' = absurd h
 

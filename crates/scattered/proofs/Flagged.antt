@@ -3,6 +3,7 @@
 --   all_flagged    when every place is written, they are the flags
 --   count_more     their count one place further
 --   count_most     it is at most the number of places
+--   flag_byte      a test as a byte is its flag
 --   none_wrong     a ring does not differ from itself
 -- Assumes nothing.
 use mathlib.Core.Path.{◌≡◌, refl, sym, ap, ◌∙◌}
@@ -13,6 +14,7 @@ use native.Mathlib.Nat.{add-zero, add-suc, suc-add}
 use native.Mathlib.Omega.{arith}
 use lib.ListN.{length, get_or}
 use lib.Seq.{ext_get_or, get_or-take}
+use mir.Val.{bool_byte}
 use borrow.Author.Tests.{eq-eqb}
 use Rattle.patch.specs.Patch.{patch}
 use Rattle.patch.proofs.Laws.{length-patch, get_or-patch_front}
@@ -51,6 +53,10 @@ module _ (f : ℕ → Bool) where
   unfolding total flags_from
   count_most a zero = omega arith
   count_most a (suc n) = omega (arith, at_most_one (f a), count_most (suc a) n)
+
+pub flag_byte : (b : Bool) → bool_byte b ≡ flag b
+flag_byte true = refl
+flag_byte false = refl
 
 -- a ring does not differ from itself
 pub none_wrong : (q : ℕ) (v : List ℕ) → wrong_symbols q v v ≡ 0

@@ -1,9 +1,10 @@
 // Pits scattered over a ring: a decoding that counts wrong symbols.
 #![tactic(auto)]
 
-ghost use Rattle.std.specs.Prelude.{◌≡◌, not, true, ◌↔◌, List, ℕ, ◌+◌, ◌*◌, ◌≤◌, ◌<◌, eqb, length};
+ghost use Rattle.std.specs.Prelude.{◌≡◌, true, ◌↔◌, List, ℕ, ◌+◌, ◌*◌, ◌≤◌, ◌<◌, length};
 ghost use Rattle.refusal.specs.Refusal.{first};
-ghost use Rattle.codes.specs.Code.{flag, flags_from, total};
+ghost use Rattle.refusal.specs.Numbers.{refused};
+ghost use Rattle.codes.specs.Code.{flags_from, total};
 ghost use Rattle.joint.specs.Promises.{buffers, left};
 ghost use Rattle.hermitian.specs.Ring.{IsRing, RingWord};
 ghost use Rattle.hermitian.specs.Pits.{bad_limit, genus, pit_checks, wrong_at};
@@ -14,7 +15,7 @@ ghost use Rattle.scattered.specs.Working.{Answerable, Judged};
 
 use array_checks::SPACE;
 use ending::Ending;
-use mark::Outcome;
+use refusal::Refusal;
 use ring_checks::{checks, shape};
 
 // Number 19 applies, the limit is above (q³ − m − 1 − g)/2, or that is below zero.
@@ -30,8 +31,7 @@ fn bad_limit(q: u32, m: u32, limit: u32) -> bool
     (n * n * n - least) / 2 < limit as usize
 }
 
-// The first check that applies, 0 where none does. Of the buffers for the answer, the flags and the working space the checks read
-// the lengths alone.
+// The first check that applies. Of the buffers for the answer, the flags and the working space the checks read the lengths alone.
 fn decode_refusal(
     q: u32,
     m: u32,
@@ -40,27 +40,17 @@ fn decode_refusal(
     answer: usize,
     flags: usize,
     space: usize,
-) -> u8
+) -> Result<(), Refusal>
     ensures { (w f s : List ℕ) → length w ≡ answer → length f ≡ flags → length s ≡ space
-        → result ≡ first (pit_checks q m limit received.now w f s) }
+        → refused result ≡ first (pit_checks q m limit received.now w f s) }
 {
-    let of_ring = checks::ring_refusal(q, m);
-    if of_ring != 0 {
-        return of_ring;
-    }
+    checks::ring_refusal(q, m)?;
     let n = shape::side(q);
-    let of_word = checks::received_refusal(q, n * n * n, received, answer, flags, space);
-    if of_word != 0 {
-        return of_word;
+    checks::received_refusal(q, n * n * n, received, answer, flags, space)?;
+    if bad_limit(q, m, limit) {
+        return Err(Refusal::PitLimit);
     }
-    if bad_limit(q, m, limit) { 19 } else { 0 }
-}
-
-// The flag of two symbols: 1 where they differ.
-fn flag_of(a: u8, b: u8) -> u8
-    ensures { result ≡ flag (not (eqb a b)) }
-{
-    if a == b { 0 } else { 1 }
+    Ok(())
 }
 
 // Flags the symbols in which two rings differ; answers how many there are.
@@ -70,12 +60,10 @@ fn flag_wrong(v: &[u8], w: &[u8], flags: &mut [u8]) -> usize
         × (result ≡ total flags.new) }
 {
     let mut count = 0;
-    let mut i = 0;
-    while i < v.len() {
-        let f = flag_of(v[i], w[i]);
-        flags[i] = f;
-        count += array_checks::wide(f);
-        i += 1;
+    for (i, flag) in flags.iter_mut().enumerate() {
+        let wrong = v[i] != w[i];
+        *flag = u8::from(wrong);
+        count += usize::from(wrong);
     }
     count
 }
@@ -87,10 +75,7 @@ fn is_word(q: u32, m: u32, ring: &[u8]) -> bool
 {
     let mut message = [0u8; 64];
     let k = checks::total(q, m);
-    match ring::read(q, m, ring, &mut message[..k]) {
-        Outcome::Done => true,
-        Outcome::Refused(_) => false,
-    }
+    ring::read(q, m, ring, &mut message[..k]).is_ok()
 }
 
 // Writes what the two runs answer to a ring. To a word they answer that word, and are not made.
@@ -99,7 +84,7 @@ fn find(q: u32, m: u32, received: &[u8], own: &mut [u8])
     ensures { own.new ≡ answer q m received.now }
 {
     if is_word(q, m, received) {
-        patch::copy(received, own);
+        own.copy_from_slice(received);
         return;
     }
     let ys = shape::ordinates(q);
@@ -152,7 +137,7 @@ pub fn decode(
         q m limit received.now (buffers answer.old flags.old) space.old
         (left result (buffers answer.new flags.new) space.new) }
 {
-    let k = decode_refusal(
+    if let Err(refused) = decode_refusal(
         q,
         m,
         limit,
@@ -160,9 +145,8 @@ pub fn decode(
         answer.len(),
         flags.len(),
         space.len(),
-    );
-    if k != 0 {
-        return Ending::Refused(k);
+    ) {
+        return Ending::Refused(refused);
     }
     rows::clear(space, 0, SPACE);
     mend(q, m, limit, received, answer, flags)

@@ -2,7 +2,7 @@
 --
 -- 'Nothing by halves.'
 --   refused_exactly     it is refused exactly when a check applies
---   refused_leaves      then its number is that of the first that does, of 10, 11, 5, 7 and 8, and word, flags and working
+--   refused_leaves      then the reason's number is that of the first that does, of 10, 11, 18, 5, 7 and 8, and word, flags and working
 --                       space are as lent
 --   as_lent             unless the ending is 'corrected', word and flags are as lent
 --   space_cleared       unless it is refused, the first 49,152 bytes of the working space are zero, those beyond as lent
@@ -28,6 +28,8 @@ use native.Mathlib.Omega.{arith}
 use lib.ListN.{length, get_or}
 use Rattle.refusal.specs.Refusal.{Check, first, is_in}
 use Rattle.refusal.specs.Meaning.{detail_of}
+use Rattle.refusal.specs.Numbers.{number}
+use Rattle.refusal.specs.declared.Refusal.{Refusal}
 use Rattle.poly.proofs.Roots.{Mem}
 use Rattle.codes.specs.Code.{Code, total, differs, flags_from, safe_limit}
 use Rattle.codes.specs.Lost.{core, right, twos_at, wrong_among, flags_lost}
@@ -85,11 +87,11 @@ module _ (q m τ : ℕ) (y : List ℕ) (lent : Buffers) (space : List ℕ) (l : 
   refused_exactly =
       subst (λ (n : ℕ). IsRefused l ↔ ¬ (n ≡ 0)) (none_checks q m τ y lent space) (lost.refused_exactly [] q m τ y lent space l none_lost)
 
-  pub refused_leaves : (k : ℕ) → l.ending ≡ Refused k
-      → (k ≡ first checks) × Mem k (10 ∷ 11 ∷ 18 ∷ 5 ∷ 7 ∷ 8 ∷ []) × (l.buffers ≡ lent) × (l.space ≡ space)
-  refused_leaves k e =
-      let (is, some, kept, kept-space) = lost.refused_leaves [] q m τ y lent space l none_lost k e in
-      let same : k ≡ first checks = is ∙ none_checks q m τ y lent space in
+  pub refused_leaves : (r : Refusal) → l.ending ≡ Refused r
+      → (number r ≡ first checks) × Mem (number r) (10 ∷ 11 ∷ 18 ∷ 5 ∷ 7 ∷ 8 ∷ []) × (l.buffers ≡ lent) × (l.space ≡ space)
+  refused_leaves r e =
+      let (is, some, kept, kept-space) = lost.refused_leaves [] q m τ y lent space l none_lost r e in
+      let same : number r ≡ first checks = is ∙ none_checks q m τ y lent space in
       let one : Mem (first checks) (10 ∷ 11 ∷ 18 ∷ 5 ∷ 7 ∷ 8 ∷ []) =
       ⊎_elim (λ z. absurd (omega arith)) (λ i. i) (first_of checks) in
       (same, rw same one, kept, kept-space)

@@ -24,6 +24,8 @@ use native.Mathlib.Omega.{arith}
 use lib.ListN.{get_or}
 use Rattle.refusal.specs.Refusal.{Check, first}
 use Rattle.refusal.specs.Meaning.{detail_of}
+use Rattle.refusal.specs.Numbers.{number}
+use Rattle.refusal.specs.declared.Refusal.{Refusal}
 use Rattle.refusal.proofs.Ladders.{first_upto}
 use Rattle.codes.specs.Code.{IsArray, columns, flags_of, safe_limit}
 use Rattle.codes.specs.Lost.{core, wrong_among, flags_lost}
@@ -57,11 +59,14 @@ module _ (L : List ℕ) (q m τ : ℕ) (y : List ℕ) (lent : Buffers) (space : 
   abbrev wrong : List ℕ → ℕ
   wrong v = wrong_among (q * q) L (sector_flags q y v)
 
-  never : (k : ℕ) (b : Buffers) → ¬ Ended (Refused k) b
+  pub in_table : first checks ≤ 26
+  in_table = first_upto 26 checks refl
+
+  never : (r : Refusal) (b : Buffers) → ¬ Ended (Refused r) b
   never k b h = h.ends
 
   others : (e : Ending) (b : Buffers) → Ended e b → ((w : ℕ) → ¬ (e ≡ Corrected w)) → b ≡ lent
-  others (Refused k) b h n = absurd h.ends
+  others (Refused r) b h n = absurd h.ends
   others (Corrected w) b h n = absurd (n w refl)
   others Nothing b h n = h.back ∙ h.ends.1
   others (Several t) b h n = h.back ∙ h.ends.2
@@ -103,22 +108,22 @@ module _ (L : List ℕ) (q m τ : ℕ) (y : List ℕ) (lent : Buffers) (space : 
 
   module _ (l : Joint.Left) (h : DecodesLost L q m τ y lent space l) where
     pub refused_exactly : IsRefused l ↔ ¬ (first checks ≡ 0)
-    refused_exactly = halves.refused_exactly checks lent space Ended never l h
+    refused_exactly = halves.refused_exactly checks lent space Ended in_table never l h
 
-    pub refused_leaves : (k : ℕ) → l.ending ≡ Refused k
-        → (k ≡ first checks) × (1 ≤ k) × (l.buffers ≡ lent) × (l.space ≡ space)
-    refused_leaves = halves.refused_leaves checks lent space Ended never l h
+    pub refused_leaves : (r : Refusal) → l.ending ≡ Refused r
+        → (number r ≡ first checks) × (1 ≤ number r) × (l.buffers ≡ lent) × (l.space ≡ space)
+    refused_leaves = halves.refused_leaves checks lent space Ended in_table never l h
 
     pub as_lent : ¬ IsCorrected l → l.buffers ≡ lent
-    as_lent = halves.as_lent checks lent space Ended never l h others
+    as_lent = halves.as_lent checks lent space Ended in_table never l h others
 
     pub space_cleared : ¬ IsRefused l
         → ((i : ℕ) → i < space_bytes → get_or l.space i 0 ≡ 0) × ((i : ℕ) → space_bytes ≤ i → get_or l.space i 0 ≡ get_or space i 0)
-    space_cleared = halves.space_cleared checks lent space Ended never l h
+    space_cleared = halves.space_cleared checks lent space Ended in_table never l h
 
-    ended_as : (e : Ending) → l.ending ≡ e → ((k : ℕ) → ¬ (e ≡ Refused k)) → Through e l.buffers
+    ended_as : (e : Ending) → l.ending ≡ e → ((r : Refusal) → ¬ (e ≡ Refused r)) → Through e l.buffers
     ended_as e i n =
-        let (none, ends) = halves.ended_as checks lent space Ended never l h e i n in
+        let (none, ends) = halves.ended_as checks lent space Ended in_table never l h e i n in
         through_array none ends
 
     corrected : (w : ℕ) → l.ending ≡ Corrected w → Through (Corrected w) l.buffers
@@ -166,9 +171,9 @@ module _ (L : List ℕ) (q m τ : ℕ) (y : List ℕ) (lent : Buffers) (space : 
           go (no k) = omega arith
 
     pub detail_small : detail_of (meaning l.ending) < 256
-    detail_small = halves.by_number checks lent space Ended never l h
+    detail_small = halves.by_number checks lent space Ended in_table never l h
         (λ none d. let t = through_array none d.0 in
         let p = t.through.word.ring in
         lost_small t.proper t.through.remain t.is_array (ring_counts q m p.size p.order) lent l.ending
         t.answer t.ends)
-        (λ j e d. let n = ap (λ (r : Joint.Left). detail_of (meaning r.ending)) d in omega (arith, first_upto 18 checks refl))
+        (λ r e d. let n = ap (λ (x : Joint.Left). detail_of (meaning x.ending)) d in omega (arith, in_table))

@@ -9,6 +9,7 @@ use mathlib.Core.List.{List}
 use Prim.Native.Nat.{ℕ, ◌*◌}
 use native.Mathlib.Omega.{arith}
 use lib.ListN.{length}
+use Rattle.refusal.specs.Numbers.{named}
 use Rattle.refusal.proofs.Keeping.{told}
 use Rattle.codes.specs.Checks as Checks
 use Rattle.codes.specs.Factors.{plain}
@@ -42,7 +43,7 @@ module _ {q m τ : ℕ} {L y w f s : List ℕ} (p : PassedLost q m τ L y w f s)
   pub lost_ended : length b ≡ q * q * q → (l : Joint.Left)
       → Joint-lost.DecodesLost L (Joint.given (plain (ring_code q m)) τ a (buffers b f) s) l
       → Array l.ending l.buffers × (l.space ≡ cleared s)
-  lost_ended k l h = told (Checks.lost_checks (plain (ring_code q m)) τ L a b f s) (λ n. Joint.left (Refused n) (buffers b f) s)
+  lost_ended k l h = told (Checks.lost_checks (plain (ring_code q m)) τ L a b f s) (λ n. Joint.left (Refused (named n)) (buffers b f) s)
       (λ l. Joint.Struck (plain (ring_code q m)) a Table l.ending l.buffers × (l.space ≡ cleared s)) l h
       (λ e d. (
         (ones_struck (ring_code q m) proper ((array_ring q m).1 is.array) Table
@@ -65,7 +66,7 @@ module _ {q m τ : ℕ} {L y w f s : List ℕ} (p : PassedLost q m τ L y w f s)
     as_lent e k = k ∙ ap (λ (l : Buffers). buffers w l.flags) e
 
     pub lost_ring_ends : (e : Ending) → Array e (buffers b' f') → Back e → LostRingEnds q m τ L y (buffers w f) e (buffers w' f')
-    lost_ring_ends (Refused k) h k' = absurd h
+    lost_ring_ends (Refused r) h k' = absurd h
     lost_ring_ends (Corrected t) h k = record { array = a; is_array = is; answer = buffers b' f'; ends = h; back = k }
     lost_ring_ends Nothing h k = record { array = a; is_array = is; answer = buffers w f; ends = (h.0, refl); back = as_lent h.1 k }
     lost_ring_ends (Several t) h k =

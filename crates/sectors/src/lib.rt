@@ -21,14 +21,8 @@ fn carry_back(ending: Ending, q: u32, own: &[u8], answer: &mut [u8])
     ensures { (f : List ℕ) → Joint.buffers answer.new f
         ≡ released ending (Joint.buffers (ring_of q own.now) f) (Joint.buffers answer.old f) }
 {
-    match ending {
-        Ending::Refused(_) => {}
-        Ending::Corrected(_) => {
-            carry::to_ring(q, own, answer);
-        }
-        Ending::Nothing => {}
-        Ending::Several(_) => {}
-        Ending::Hollow(_) => {}
+    if let Ending::Corrected(_) = ending {
+        carry::to_ring(q, own, answer);
     }
 }
 
@@ -87,7 +81,7 @@ pub fn decode_lost(
         q m limit received.now (Joint.buffers answer.old flags.old) space.old
         (Joint.left result (Joint.buffers answer.new flags.new) space.new) }
 {
-    let k = checks::lost_refusal(
+    if let Err(refused) = checks::lost_refusal(
         q,
         m,
         limit,
@@ -96,9 +90,8 @@ pub fn decode_lost(
         answer.len(),
         flags.len(),
         space.len(),
-    );
-    if k != 0 {
-        return Ending::Refused(k);
+    ) {
+        return Ending::Refused(refused);
     }
     decode_ring(q, m, limit, lost, received, answer, flags, space)
 }

@@ -2,14 +2,15 @@
 --
 --   least_scan      where every line is marked
 --   another_scan    where the lines of another lead are marked
---   five            what holds of each of five numbers; all_marked, of five ones
+--   five            what holds of each of five numbers
+--   all_marked      where all marks are one, none is zero
 -- Assumes nothing.
 use mathlib.Core.Path.{◌≡◌, sym, ◌∙◌}
-use mathlib.Core.List.{List, [], ◌∷◌}
+use mathlib.Core.List.{List}
 use Prim.Native.Nat.{ℕ, zero, suc, ◌<◌}
 use native.Mathlib.Decide.{ℕ_discrete}
 use native.Mathlib.Omega.{arith}
-use lib.ListN.{length, get_or, get_elem?}
+use lib.ListN.{length, get_or, get_elem?, replicate, get_or-replicate}
 use Rattle.basis.proofs.Lines.{Line, least, another}
 use Rattle.solver.specs.Working.Held.{blank, LeadsOf}
 use Rattle.solver.specs.Working.Scan.{found, first_lowest, Marks}
@@ -23,14 +24,8 @@ five P a b c d e (suc (suc (suc zero))) lt = d
 five P a b c d e (suc (suc (suc (suc zero)))) lt = e
 five P a b c d e (suc (suc (suc (suc (suc j))))) lt = absurd (omega arith)
 
-abbrev ones : List ℕ
-ones = 1 ∷ 1 ∷ 1 ∷ 1 ∷ 1 ∷ []
-
-pub all_marked : (j : ℕ) → j < 5 → get_or ones j 0 ≡ 0 → ⊥
-all_marked = five (λ (k : ℕ). get_or ones k 0 ≡ 0 → ⊥) one one one one one
-  where
-    one : ◌≡◌ {A = ℕ} 1 0 → ⊥
-    one e = omega arith
+pub all_marked : (n j : ℕ) → j < n → get_or (replicate {A = ℕ} n 1) j 0 ≡ 0 → ⊥
+all_marked n j lt e = let one : get_or (replicate {A = ℕ} n 1) j 0 ≡ 1 = get_or-replicate n j 1 0 lt in omega arith
 
 module _ (ms leads : List ℕ) (n r : ℕ) (is : found n r ≡ first_lowest ms leads n) (es : List (Line ℕ)) (size : length es ≡ n)
     (led : LeadsOf leads es)

@@ -1,22 +1,9 @@
 // The lines before the first condition.
-ghost use Rattle.std.specs.Prelude.{◌≡◌, ◌+◌, ◌*◌, ◌≤◌, ◌<◌, length};
-ghost use Rattle.patch.specs.Patch.{patch};
+ghost use Rattle.std.specs.Prelude.{◌+◌, ◌*◌, ◌≤◌, ◌<◌, length};
 ghost use Rattle.solver.specs.Working.Slots.{line_slots, Only, Each};
 ghost use Rattle.solver.specs.Working.Start.{all_counts, first_slots, row_slots, row_line};
 
 use crate::LINE;
-
-// n slots from `at` on become 1.
-fn ones(space: &mut [u8], at: usize, n: usize)
-    requires { at + n ≤ length space.old }
-    ensures { space.new ≡ patch at n (λ k. 1) space.old }
-{
-    let mut i = 0;
-    while i < n {
-        space[at + i] = 1;
-        i += 1;
-    }
-}
 
 // The first line: the values us, and the locator 1.
 pub(crate) fn first_line(us: &[u8], space: &mut [u8])
@@ -25,7 +12,7 @@ pub(crate) fn first_line(us: &[u8], space: &mut [u8])
 {
     rows::clear(space, 0, LINE);
     rows::store(us, space, 0);
-    ones(space, us.len(), 1);
+    space[us.len()] = 1;
 }
 
 // Line j as that of a row with n conditions, the first of which is number `at`.
@@ -34,7 +21,8 @@ fn row_line(space: &mut [u8], j: usize, at: usize, n: usize)
     ensures { Only j (row_slots at n) space.old space.new }
 {
     rows::clear(space, LINE * j, LINE);
-    ones(space, LINE * j + at, n);
+    let first = LINE * j + at;
+    space[first..first + n].fill(1);
 }
 
 // The lines of the rows, which have these numbers of conditions, behind the first line.
@@ -42,11 +30,9 @@ pub(crate) fn row_lines(counts: &[usize], space: &mut [u8])
     requires { (all_counts counts.now ≤ line_slots) × (line_slots * (length counts.now + 1) ≤ length space.old) }
     ensures { Each (length counts.now + 1) (row_line counts.now) space.old space.new }
 {
-    let mut j = 0;
     let mut at = 0;
-    while j < counts.len() {
-        row_line(space, j + 1, at, counts[j]);
-        at += counts[j];
-        j += 1;
+    for (j, count) in counts.iter().enumerate() {
+        row_line(space, j + 1, at, *count);
+        at += *count;
     }
 }

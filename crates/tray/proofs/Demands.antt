@@ -8,7 +8,7 @@
 --
 -- 'Demands 1 and 3 then read for each mark': of a tray that is not refused, and each mark k of it.
 --   each_alone          the mark's answer, array and flags are those of a call for it alone
---   only_seven, seven_exactly    a mark is refused with 7 and no other number, and exactly when it has a symbol outside the field
+--   only_seven, seven_exactly    a mark is refused with 7, for its symbols, and no other number, and exactly when it has a symbol outside the field
 --   mark_as_lent        unless its ending is 'corrected', its array and flags are as lent
 --   corrected_nearest, none_far, safe_exactly, safe_otherwise    what the ending means for code arrays
 --   detail_small        its detail is below 256
@@ -25,14 +25,18 @@ use native.Mathlib.Omega.{arith}
 use lib.ListN.{get_or}
 use Rattle.patch.proofs.Parts.{length_part}
 use Rattle.refusal.specs.Refusal.{◌when◌, first, some_outside_field}
-use Rattle.refusal.specs.Meaning.{detail_of}
+use Rattle.refusal.specs.Meaning.{refusal, number_of, detail_of}
+use Rattle.refusal.specs.Numbers.{number}
+use Rattle.refusal.specs.declared.Refusal.{Refusal}
+use Rattle.refusal.specs.declared.Refusal.TheVariants.{Symbols}
 use Rattle.refusal.proofs.Keeping.{told}
 use Rattle.refusal.proofs.Ladders.{hit, first_upto}
+use Rattle.refusal.proofs.Numbers.{same_reason}
 use Rattle.codes.specs.Code.{Code, columns, wrong_count, flags_of, safe_limit}
 use Rattle.codes.specs.Factors.{Description, CodeArrayBy}
 use Rattle.codes.specs.Near.{Nearest, Near, Far}
 use Rattle.codes.specs.Checks.{space_bytes}
-use Rattle.mark.specs.declared.Outcome.TheVariants as outcomes
+use Rattle.mark.specs.Promises.{success}
 use Rattle.ending.specs.Endings.{meaning}
 use Rattle.ending.specs.declared.Ending.{Ending}
 use Rattle.ending.specs.declared.Ending.TheVariants.{Refused, Corrected, Nothing}
@@ -41,7 +45,7 @@ use Rattle.joint.specs.Promises.{Left, left, cleared, checks_of}
 use Rattle.joint.proofs.Halves.{IsCorrected, zeros_before, rest_behind}
 use Rattle.joint.proofs.Demands as single
 use Rattle.tray.specs.declared.Answer.{Answer}
-use Rattle.tray.specs.Promises.{answer_of, GivenTray, LeftTray, left_tray, Alone, Fills}
+use Rattle.tray.specs.Promises.{answer_of, GivenTray, LeftTray, refused_tray, Alone, Fills}
 use Rattle.tray.specs.Promises.{DecodesTray, alone, cells, received_of, mark_of, checks_tray}
 use Rattle.tray.proofs.Places.{row_within}
 use Rattle.tray.proofs.Single.{own_check as single-check}
@@ -50,11 +54,11 @@ use Rattle.tray.proofs.Filled.{marks, has_passed}
 pub answer_tells : (e e' : Ending) → answer_of e ≡ answer_of e' → e ≡ e'
 answer_tells e e' p = meaning_faithful e e' (ap (λ (a : Answer). a.ending) p) (ap (λ (a : Answer). a.detail) p)
 
-not_done : {k : ℕ} → ¬ (outcomes.Done ≡ outcomes.Refused k)
-not_done e = let z : ◌≡◌ {A = ℕ} 0 1 = cc in omega arith
+not_done : {k : ℕ} → ¬ (success ≡ refusal k)
+not_done e = omega (arith, ap number_of e)
 
-same_number : {j k : ℕ} → outcomes.Refused j ≡ outcomes.Refused k → j ≡ k
-same_number e = cc
+same_number : {j k : ℕ} → refusal j ≡ refusal k → j ≡ k
+same_number e = ap detail_of e
 
 -- check 7 alone
 of_seven : {b : Bool} → b ≡ true → first ((7 when b) ∷ []) ≡ 7
@@ -79,7 +83,7 @@ module _ {A : Type 0} (say : Ending → A) (g : GivenTray A) where
 
     own_check : first (checks_of (alone g k)) ≡ first ((7 when bad) ∷ [])
     own_check =
-        let p = has_passed say g none in
+        let p = has_passed g none in
         let n = columns c in
         single-check D g.limit p.common (received_of c k g.received) (mark_of c k g.lent)
         (length_part (k * cells c) (cells c) g.received (row_within (cells c) (marks g) k g.received within p.received))
@@ -88,14 +92,14 @@ module _ {A : Type 0} (say : Ending → A) (g : GivenTray A) where
 
   module _ (l : LeftTray A) (h : DecodesTray say g l) where
     abbrev IsRefused : Type 0
-    IsRefused = (k : ℕ) × (l.outcome ≡ outcomes.Refused k)
+    IsRefused = (k : ℕ) × (l.outcome ≡ refusal k)
 
     abbrev Done : LeftTray A → Type 0
-    Done l = (l.outcome ≡ outcomes.Done) × Fills say g l.answers l.buffers × (l.space ≡ cleared g.space)
+    Done l = (l.outcome ≡ success) × Fills say g l.answers l.buffers × (l.space ≡ cleared g.space)
 
     by_number : {P : Type 0} → (0 ≡ first (checks_tray g) → Done l → P)
-        → ((k : ℕ) → suc k ≡ first (checks_tray g) → l ≡ left_tray (outcomes.Refused (suc k)) g.answers g.lent g.space → P) → P
-    by_number = told (checks_tray g) (λ k. left_tray (outcomes.Refused k) g.answers g.lent g.space) Done l h
+        → ((k : ℕ) → suc k ≡ first (checks_tray g) → l ≡ refused_tray g (suc k) → P) → P
+    by_number = told (checks_tray g) (refused_tray g) Done l h
 
     pub refused_exactly : IsRefused ↔ ¬ (first (checks_tray g) ≡ 0)
     refused_exactly = (
@@ -103,7 +107,7 @@ module _ {A : Type 0} (say : Ending → A) (g : GivenTray A) where
       λ n. by_number (λ p d. absurd (n (sym p))) (λ j p d. (suc j, ap (λ (x : LeftTray A). x.outcome) d)),
     )
 
-    pub refused_leaves : (k : ℕ) → l.outcome ≡ outcomes.Refused k → (k ≡ first (checks_tray g)) × (1 ≤ k) × (k ≤ 23)
+    pub refused_leaves : (k : ℕ) → l.outcome ≡ refusal k → (k ≡ first (checks_tray g)) × (1 ≤ k) × (k ≤ 23)
         × (l.answers ≡ g.answers) × (l.buffers ≡ g.lent) × (l.space ≡ g.space)
     refused_leaves k e = by_number
         (λ p d. absurd (not_done (sym d.0 ∙ e)))
@@ -140,20 +144,20 @@ module _ {A : Type 0} (say : Ending → A) (g : GivenTray A) where
         abbrev y : List ℕ
         y = received_of c k g.received
 
-        pub only_seven : (j : ℕ) → each_alone.ending ≡ Refused j
-            → (j ≡ 7) × (some_outside_field c.degree y ≡ true) × (mark_of c k l.buffers ≡ mark_of c k g.lent)
-        only_seven j e =
-            let r = single.refused_leaves (alone g k) mark each_alone.decodes j e in
-            let s = seven_of (some_outside_field c.degree y) j (r.0 ∙ own_check done.0 k within) r.1 in
-            (s.0, s.1, r.3)
+        pub only_seven : (r : Refusal) → each_alone.ending ≡ Refused r
+            → (r ≡ Symbols) × (some_outside_field c.degree y ≡ true) × (mark_of c k l.buffers ≡ mark_of c k g.lent)
+        only_seven r e =
+            let h = single.refused_leaves (alone g k) mark each_alone.decodes r e in
+            let s = seven_of (some_outside_field c.degree y) (number r) (h.0 ∙ own_check done.0 k within) h.1 in
+            (same_reason r Symbols s.0, s.1, h.3)
 
-        pub seven_exactly : (each_alone.ending ≡ Refused 7) ↔ (some_outside_field c.degree y ≡ true)
+        pub seven_exactly : (each_alone.ending ≡ Refused Symbols) ↔ (some_outside_field c.degree y ≡ true)
         seven_exactly = (
-          λ e. (only_seven 7 e).1,
+          λ e. (only_seven Symbols e).1,
           λ b.
-              let (j, e) = (single.refused_exactly (alone g k) mark each_alone.decodes).1
+              let (r, e) = (single.refused_exactly (alone g k) mark each_alone.decodes).1
               (λ z. let s : 7 ≡ 0 = sym (of_seven b) ∙ sym (own_check done.0 k within) ∙ z in omega arith) in
-              e ∙ ap Refused (only_seven j e).0,
+              e ∙ ap Refused (only_seven r e).0,
         )
 
         pub mark_as_lent : ¬ IsCorrected mark → mark_of c k l.buffers ≡ mark_of c k g.lent
@@ -171,8 +175,8 @@ module _ {A : Type 0} (say : Ending → A) (g : GivenTray A) where
         detail_small = single.detail_small (alone g k) mark each_alone.decodes
 
         module _ (safe : g.limit ≤ safe_limit c) (right : ¬ (some_outside_field c.degree y ≡ true)) where
-          not_refused : ¬ ((j : ℕ) × (each_alone.ending ≡ Refused j))
-          not_refused (j, e) = right (only_seven j e).1
+          not_refused : ¬ ((r : Refusal) × (each_alone.ending ≡ Refused r))
+          not_refused (r, e) = right (only_seven r e).1
 
           pub safe_exactly : IsCorrected mark ↔ Near (CodeArrayBy D) (wrong_count c y) g.limit
           safe_exactly = single.safe_exactly (alone g k) mark each_alone.decodes safe not_refused

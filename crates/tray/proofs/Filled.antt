@@ -2,10 +2,12 @@
 --
 --   Passed D τ m y a f w    what a tray's checks leave; passed, from them
 --   marked              what the decoding of the lent parts leaves
---   FilledTo say g i s b    the first i marks are decoded, and the others' buffers are as lent
---   starts, turns, fills    before the first mark; one mark more; all of them
---   lies                the next mark lies in the lent slices
---   Held say g k i s b w    the same, with the space; or all as lent where k refuses the tray; held_first, held_next, held_last
+--   Space g n w         the space with n marks left
+--   Waits g i b w       the marks from i on are as they were lent, and the space has what they share
+--   Told g say i s b    the first i marks are decoded, and s has their answers
+--   waits_first, told_first    before the first mark
+--   lies                the next mark lies in the lent slices; waits_next, told_next, when it is decoded
+--   filled              behind the last one the tray is
 -- Assumes nothing.
 use mathlib.Core.Path.{◌≡◌, refl, sym, ap, ◌∙◌, subst, subst₂}
 use mathlib.Core.Bool.{Bool}
@@ -23,24 +25,22 @@ use Rattle.patch.proofs.Parts.{length_part, length-lay}
 use Rattle.refusal.specs.Refusal.{first}
 use Rattle.refusal.proofs.Laws.{within}
 use Rattle.refusal.proofs.Ladders.{clear}
-use Rattle.refusal.proofs.Keeping.{does, refuses}
+use Rattle.refusal.proofs.Keeping.{does}
+use Rattle.std.proofs.Common.{Ok}
 use Rattle.field.proofs.Instance.{field}
 use Rattle.codes.specs.Code.{columns, joint_limit}
 use Rattle.codes.specs.Factors.{Description}
 use Rattle.codes.specs.Checks.{wrong_length, space_bytes}
 use Rattle.codes.proofs.Proper.{neither, lengths_test, proper}
 use Rattle.codes.proofs.Passed.{counted, checked, right-length, factors_of}
-use Rattle.mark.specs.declared.Outcome.{Outcome}
-use Rattle.mark.specs.declared.Outcome.TheVariants as outcomes
 use Rattle.ending.specs.Endings.{Buffers}
 use Rattle.ending.specs.declared.Ending.{Ending}
 use Rattle.ending.specs.declared.Ending.TheVariants.{Nothing}
 use Rattle.joint.specs.Promises.{Decodes, buffers, given, left, cleared}
-use Rattle.joint.proofs.Cleared.{cleared-length, cleared_same}
-use Rattle.tray.specs.declared.Answer.{Answer}
-use Rattle.tray.specs.Promises.{answer_of, GivenTray, left_tray, Alone, Fills}
+use Rattle.joint.proofs.Cleared.{cleared_same}
+use Rattle.tray.specs.Promises.{GivenTray, left_tray, Alone}
 use Rattle.tray.specs.Promises.{DecodesTray, alone, cells, received_of, mark_of, tray_checks, checks_tray}
-use Rattle.tray.specs.Working.{Common, Shared, Begun, Opened, cleared_if, marks_of, outcome_of, Decoded, Lies, Marked}
+use Rattle.tray.specs.Working.{Common, Begun, cleared_if, Decoded, Lies, Marked}
 use Rattle.tray.proofs.Places.{row_within, row_laid, other_rows, lent_row, row_back}
 
 pub record Passed (D : Description) (τ m : ℕ) (y a f w : List ℕ) : Type 0 where
@@ -95,18 +95,16 @@ module _ (D : Description) (τ k : ℕ) (y a f w : List ℕ) (h : Lies D τ k y 
   abbrev wide : ℕ
   wide = column + columns D.code - column
 
-  pub marked : (e : Ending) (u v w' : List ℕ) (x : Answer) → x ≡ answer_of e
+  pub marked : (e : Ending) (u v w' : List ℕ)
       → length u ≡ length (take size (drop at a)) → length v ≡ length (take wide (drop column f))
       → Decoded D τ (take size (drop at y)) (buffers (take size (drop at a)) (take wide (drop column f))) e (buffers u v)
       → w' ≡ cleared_if (eqb (at + cells D.code) (length a)) w
-      → Marked D τ k y (buffers a f) w x
+      → Marked D τ k y (buffers a f) w e
       (buffers (take at a ++ (u ++ drop size (drop at a))) (take column f ++ (v ++ drop wide (drop column f)))) w'
-  marked e u v w' x is lu lv d r = record {
-    ending = e;
+  marked e u v w' lu lv d r = record {
     own = buffers u v;
     decoded = subst₂ (λ (z : List ℕ) (b : Buffers). Decoded D τ z b e (buffers u v)) (lent_row at (cells D.code) y)
         (λ i. buffers (lent_row at (cells D.code) a i) (lent_row column (columns D.code) f i)) d;
-    answer = is;
     array_size = rows-size;
     flags_size = columns-size;
     array = row_back at (cells D.code) u a rows-size h.array;
@@ -123,7 +121,7 @@ module _ (D : Description) (τ k : ℕ) (y a f w : List ℕ) (h : Lies D τ k y 
 abbrev pub marks : {A : Type 0} → GivenTray A → ℕ
 marks g = length g.answers
 
-module _ {A : Type 0} (say : Ending → A) (g : GivenTray A) where
+module _ {A : Type 0} (g : GivenTray A) where
   abbrev D : Description
   D = g.description
 
@@ -133,98 +131,27 @@ module _ {A : Type 0} (say : Ending → A) (g : GivenTray A) where
   pub has_passed : 0 ≡ first (checks_tray g) → HasPassed
   has_passed = passed D g.limit (marks g) g.received g.lent.array g.lent.flags g.space
 
-  pub record FilledTo (i : ℕ) (s : List A) (b : Buffers) : Type 0 where
-    pub count : length s ≡ marks g
-    pub arrays : length b.array ≡ length g.lent.array
-    pub flags : length b.flags ≡ length g.lent.flags
-    pub done : (k : ℕ) → k < i → Alone say g s b k
-    pub rest : (k : ℕ) → i ≤ k → k < marks g → mark_of D.code k b ≡ mark_of D.code k g.lent
-
-  pub starts : FilledTo 0 g.answers g.lent
-  starts = record { count = refl; arrays = refl; flags = refl; done = λ k h. absurd (omega arith); rest = λ k h q. refl }
-
-  pub fills : (s : List A) (b : Buffers) → FilledTo (marks g) s b → Fills say g s b
-  fills s b h = record { count = h.count; arrays = h.arrays; flags = h.flags; marks = h.done }
-
-  module _ (p : HasPassed) (i : ℕ) (s : List A) (b : Buffers) (h : FilledTo i s b) (more : i < marks g) (v : List ℕ)
-      (shared : Shared D.code v) where
-    pub lies : Lies D g.limit i g.received b v
-    lies = record {
-      common = p.common;
-      most_rows = p.common.counts.most_rows;
-      most_columns = p.common.counts.most_columns;
-      few = omega (arith, p.few_marks);
-      received = row_within (cells D.code) (marks g) i g.received more p.received;
-      array = row_within (cells D.code) (marks g) i b.array more (h.arrays ∙ p.arrays);
-      flags = row_within (columns D.code) (marks g) i b.flags more (h.flags ∙ p.flags);
-      shared = shared;
-    }
-
-    module _ (a : Answer) (b' : Buffers) (w' : List ℕ) (q : Marked D g.limit i g.received b v a b' w') where
-      -- the mark itself, and the others
-      here : mark_of D.code i b' ≡ q.own
-      here = λ j. record {
-        array = (ap (part (i * cells D.code) (cells D.code)) q.array
-            ∙ row_laid (cells D.code) i q.own.array b.array q.array_size lies.array) j;
-        flags = (ap (part (i * columns D.code) (columns D.code)) q.flags
-            ∙ row_laid (columns D.code) i q.own.flags b.flags q.flags_size lies.flags) j;
-      }
-
-      others : (k : ℕ) → ¬ (k ≡ i) → k < marks g → mark_of D.code k b' ≡ mark_of D.code k b
-      others k d r = λ j. record {
-        array = (ap (part (k * cells D.code) (cells D.code)) q.array
-            ∙ other_rows (cells D.code) i q.own.array b.array q.array_size k d
-            (row_within (cells D.code) (marks g) k b.array r (h.arrays ∙ p.arrays))) j;
-        flags = (ap (part (k * columns D.code) (columns D.code)) q.flags
-            ∙ other_rows (columns D.code) i q.own.flags b.flags q.flags_size k d
-            (row_within (columns D.code) (marks g) k b.flags r (h.flags ∙ p.flags))) j;
-      }
-
-      module _ (x : A) (is : x ≡ say q.ending) where
-        decoded : Alone say g (set s i x) b' i
-        decoded =
-            let (w, d) = q.decoded g.space p.space in
-            record {
-              ending = q.ending;
-              space = w;
-              decodes = subst (λ (o : Buffers). Decodes (alone g i) (left q.ending o w)) (sym here)
-                  (subst (λ (o : Buffers). Decodes (given D g.limit (received_of D.code i g.received) o g.space)
-                  (left q.ending q.own w))
-                  (h.rest i (omega arith) more) d);
-              answer = get_or-set_same s i x (say Nothing) (omega (arith, h.count)) ∙ is;
-            }
-
-        kept : (k : ℕ) → ¬ (k ≡ i) → k < marks g → Alone say g s b k → Alone say g (set s i x) b' k
-        kept k d r o = record {
-          ending = o.ending;
-          space = o.space;
-          decodes = subst (λ (m : Buffers). Decodes (alone g k) (left o.ending m o.space)) (sym (others k d r)) o.decodes;
-          answer = get_or-set_other s i k x (say Nothing) d ∙ o.answer;
-        }
-
-        pub turns : FilledTo (i + 1) (set s i x) b'
-        turns = record {
-          count = length-set s i x ∙ h.count;
-          arrays = ap length q.array ∙ length-lay (i * cells D.code) q.own.array b.array ∙ h.arrays;
-          flags = ap length q.flags ∙ length-lay (i * columns D.code) q.own.flags b.flags ∙ h.flags;
-          done = λ k r. each k r (ℕ_discrete k i);
-          rest = λ k r t. others k (λ e. omega arith) t ∙ h.rest k (omega arith) t;
-        }
-          where
-            each : (k : ℕ) → k < i + 1 → Dec (k ≡ i) → Alone say g (set s i x) b' k
-            each k r (yes e) = subst (Alone say g (set s i x) b') (sym e) decoded
-            each k r (no e) = kept k e (omega arith) (h.done k (omega arith))
-
   -- the space, with n marks left
   abbrev pub Space : (n : ℕ) (w : List ℕ) → Type 0
   Space zero w = w ≡ cleared g.space
   Space (suc n) w = Begun D.code g.space w
 
-  space_long : (n : ℕ) (w : List ℕ) → HasPassed → Space n w → length w ≡ length g.space
-  space_long zero w p e = ap length e ∙ cleared-length g.space p.space
-  space_long (suc n) w p h = h.long
+  pub record Waits (i : ℕ) (b : Buffers) (w : List ℕ) : Type 0 where
+    pub upto : i ≤ marks g
+    pub arrays : length b.array ≡ length g.lent.array
+    pub flags : length b.flags ≡ length g.lent.flags
+    pub rest : (k : ℕ) → i ≤ k → k < marks g → mark_of D.code k b ≡ mark_of D.code k g.lent
+    pub space : Space (marks g - i) w
 
-  -- a mark more: behind the last one it is cleared
+  pub record Told (say : Ending → A) (i : ℕ) (s : List A) (b : Buffers) : Type 0 where
+    pub count : length s ≡ marks g
+    pub done : (k : ℕ) → k < i → Alone say g s b k
+
+  -- how many are left
+  left_by : (i : ℕ) → i < marks g → (n : ℕ) × (i + suc n ≡ marks g) × (marks g - i ≡ suc n) × (marks g - (i + 1) ≡ n)
+  left_by i more = (marks g - (i + 1), omega arith, omega arith, refl)
+
+  -- a mark more: behind the last one the space is cleared
   module _ (p : HasPassed) (i : ℕ) (b : Buffers) (arrays : length b.array ≡ length g.lent.array) (v w' : List ℕ)
       (begun : Begun D.code g.space v)
       (left : w' ≡ cleared_if (eqb (i * cells D.code + cells D.code) (length b.array)) v) where
@@ -248,59 +175,111 @@ module _ {A : Type 0} (say : Ending → A) (g : GivenTray A) where
             let further = mul-le-mul_right {m = suc (suc i)} {n = marks g} n (omega arith) in
             omega (arith, suc-mul i n, suc-mul (suc i) n, further, some_cells, all)
 
-  -- where k may refuse the tray
-  abbrev pub Held : (k i : ℕ) (s : List A) (b : Buffers) (w : List ℕ) → Type 0
-  Held zero i s b w = (i ≤ marks g) × FilledTo i s b × Space (marks g - i) w
-  Held (suc k) i s b w = (s ≡ g.answers) × (b ≡ g.lent) × (w ≡ g.space)
+  -- before the first mark
+  pub told_first : (say : Ending → A) → Told say 0 g.answers g.lent
+  told_first say = record { count = refl; done = λ k h. absurd (omega arith) }
 
-  pub held_sizes : (k i : ℕ) (s : List A) (b : Buffers) (w : List ℕ) → k ≡ first (checks_tray g) → Held k i s b w
-      → (length s ≡ marks g) × (length b.array ≡ length g.lent.array) × (length b.flags ≡ length g.lent.flags)
-      × (length w ≡ length g.space)
-  held_sizes zero i s b w n (l, h, v) = (h.count, h.arrays, h.flags, space_long (marks g - i) w (has_passed n) v)
-  held_sizes (suc k) i s b w n (e, f, v) =
-      (ap length e, ap (λ (x : Buffers). length x.array) f, ap (λ (x : Buffers). length x.flags) f, ap length v)
+  module _ (none : 0 ≡ first (checks_tray g)) where
+    p : HasPassed
+    p = has_passed none
 
-  -- how many are left
-  left_by : (i : ℕ) → i < marks g → (n : ℕ) × (i + suc n ≡ marks g) × (marks g - i ≡ suc n) × (marks g - (i + 1) ≡ n)
-  left_by i more = (marks g - (i + 1), omega arith, omega arith, refl)
+    pub waits_first : (w : List ℕ) → Begun D.code g.space w → Waits 0 g.lent w
+    waits_first w h = record {
+      upto = omega arith;
+      arrays = refl;
+      flags = refl;
+      rest = λ k l m. refl;
+      space = let (_, _, e, _) = left_by 0 p.some_marks in subst (λ (m : ℕ). Space m w) (sym e) h;
+    }
 
-  pub held_first : (k : ℕ) (w : List ℕ) → k ≡ first (checks_tray g) → Opened D.code k g.space w → Held k 0 g.answers g.lent w
-  held_first zero w n h =
-      let (_, _, e, _) = left_by 0 (has_passed n).some_marks in
-      (omega arith, starts, subst (λ (m : ℕ). Space m w) (sym e) h)
-  held_first (suc k) w n h = (refl, refl, h)
+    -- with marks left the space has what they share
+    module _ (i : ℕ) (b : Buffers) (w : List ℕ) (h : Waits i b w) (more : i < marks g) where
+      begun : Begun D.code g.space w
+      begun = let (_, _, e, _) = left_by i more in subst (λ (m : ℕ). Space m w) e h.space
 
-  pub below_marks : (k i : ℕ) → i < marks_of k (marks g) → i < marks g
-  below_marks zero i h = h
-  below_marks (suc k) i h = absurd (omega arith)
+      pub lies : Lies D g.limit i g.received b w
+      lies = record {
+        common = p.common;
+        most_rows = p.common.counts.most_rows;
+        most_columns = p.common.counts.most_columns;
+        few = omega (arith, p.few_marks);
+        received = row_within (cells D.code) (marks g) i g.received more p.received;
+        array = row_within (cells D.code) (marks g) i b.array more (h.arrays ∙ p.arrays);
+        flags = row_within (columns D.code) (marks g) i b.flags more (h.flags ∙ p.flags);
+        shared = begun.shared;
+      }
 
-  -- with marks left the space has what they share
-  held_begun : (i : ℕ) (w : List ℕ) → i < marks g → Space (marks g - i) w → Begun D.code g.space w
-  held_begun i w more v = let (n, _, e, _) = left_by i more in subst (λ (m : ℕ). Space m w) e v
+      module _ (e : Ending) (b' : Buffers) (w' : List ℕ) (q : Marked D g.limit i g.received b w e b' w') where
+        -- the mark itself, and the others
+        here : mark_of D.code i b' ≡ q.own
+        here = λ j. record {
+          array = (ap (part (i * cells D.code) (cells D.code)) q.array
+              ∙ row_laid (cells D.code) i q.own.array b.array q.array_size lies.array) j;
+          flags = (ap (part (i * columns D.code) (columns D.code)) q.flags
+              ∙ row_laid (columns D.code) i q.own.flags b.flags q.flags_size lies.flags) j;
+        }
 
-  pub held_lies : (k i : ℕ) (s : List A) (b : Buffers) (w : List ℕ) → k ≡ first (checks_tray g) → Held k i s b w
-      → i < marks_of k (marks g) → Lies D g.limit i g.received b w
-  held_lies zero i s b w e (l, h, v) more = lies (has_passed e) i s b h more w (held_begun i w more v).shared
-  held_lies (suc k) i s b w e h more = absurd (omega arith)
+        others : (k : ℕ) → ¬ (k ≡ i) → k < marks g → mark_of D.code k b' ≡ mark_of D.code k b
+        others k d r = λ j. record {
+          array = (ap (part (k * cells D.code) (cells D.code)) q.array
+              ∙ other_rows (cells D.code) i q.own.array b.array q.array_size k d
+              (row_within (cells D.code) (marks g) k b.array r (h.arrays ∙ p.arrays))) j;
+          flags = (ap (part (k * columns D.code) (columns D.code)) q.flags
+              ∙ other_rows (columns D.code) i q.own.flags b.flags q.flags_size k d
+              (row_within (columns D.code) (marks g) k b.flags r (h.flags ∙ p.flags))) j;
+        }
 
-  pub held_next : (k i : ℕ) (s : List A) (b : Buffers) (w : List ℕ) → k ≡ first (checks_tray g) → Held k i s b w
-      → i < marks_of k (marks g) → (a : Answer) (b' : Buffers) (w' : List ℕ) (q : Marked D g.limit i g.received b w a b' w')
-      → (x : A) → x ≡ say q.ending → Held k (i + 1) (set s i x) b' w'
-  held_next zero i s b w e (l, h, v) more a b' w' q x is =
-      let begun = held_begun i w more v in
-      let (n, all, _, same) = left_by i more in (
-        omega arith,
-        turns (has_passed e) i s b h more w begun.shared a b' w' q x is,
-        subst (λ (m : ℕ). Space m w') (sym same) (space_next (has_passed e) i b h.arrays w w' begun q.space n all),
-      )
-  held_next (suc k) i s b w e h more a b' w' q x is = absurd (omega arith)
+        pub waits_next : Waits (i + 1) b' w'
+        waits_next = record {
+          upto = omega arith;
+          arrays = ap length q.array ∙ length-lay (i * cells D.code) q.own.array b.array ∙ h.arrays;
+          flags = ap length q.flags ∙ length-lay (i * columns D.code) q.own.flags b.flags ∙ h.flags;
+          rest = λ k r t. others k (λ e. omega arith) t ∙ h.rest k (omega arith) t;
+          space = let (n, all, _, same) = left_by i more in
+              subst (λ (m : ℕ). Space m w') (sym same) (space_next p i b h.arrays w w' begun q.space n all);
+        }
 
-  pub held_last : (k i : ℕ) (s : List A) (b : Buffers) (w : List ℕ) → k ≡ first (checks_tray g) → Held k i s b w
-      → ¬ (i < marks_of k (marks g)) → (o : Outcome) → o ≡ outcome_of k → DecodesTray say g (left_tray o s b w)
-  held_last zero i s b w e (l, h, v) stop o is =
-      let all : i ≡ marks g = omega arith in
-      let none : marks g - i ≡ 0 = omega arith in
-      does (checks_tray g) _ _ _ e (is, fills s b (subst (λ (j : ℕ). FilledTo j s b) all h), subst (λ (m : ℕ). Space m w) none v)
-  held_last (suc k) i s b w e (p, q, v) stop o is =
-      subst (DecodesTray say g) (λ j. left_tray (sym is j) (sym p j) (sym q j) (sym v j))
-      (refuses (checks_tray g) (λ n. left_tray (outcomes.Refused n) g.answers g.lent g.space) _ e (λ z. omega arith))
+        module _ (say : Ending → A) (s : List A) (t : Told say i s b) (x : A) (is : x ≡ say e) where
+          decoded : Alone say g (set s i x) b' i
+          decoded =
+              let (w, d) = q.decoded g.space p.space in
+              record {
+                ending = e;
+                space = w;
+                decodes = subst (λ (o : Buffers). Decodes (alone g i) (left e o w)) (sym here)
+                    (subst (λ (o : Buffers). Decodes (given D g.limit (received_of D.code i g.received) o g.space) (left e q.own w))
+                    (h.rest i (omega arith) more) d);
+                answer = get_or-set_same s i x (say Nothing) (omega (arith, t.count)) ∙ is;
+              }
+
+          kept : (k : ℕ) → ¬ (k ≡ i) → k < marks g → Alone say g s b k → Alone say g (set s i x) b' k
+          kept k d r o = record {
+            ending = o.ending;
+            space = o.space;
+            decodes = subst (λ (m : Buffers). Decodes (alone g k) (left o.ending m o.space)) (sym (others k d r)) o.decodes;
+            answer = get_or-set_other s i k x (say Nothing) d ∙ o.answer;
+          }
+
+          pub told_next : Told say (i + 1) (set s i x) b'
+          told_next = record { count = length-set s i x ∙ t.count; done = λ k r. each k r (ℕ_discrete k i) }
+            where
+              each : (k : ℕ) → k < i + 1 → Dec (k ≡ i) → Alone say g (set s i x) b' k
+              each k r (yes e) = subst (Alone say g (set s i x) b') (sym e) decoded
+              each k r (no e) = kept k e (omega arith) (t.done k (omega arith))
+
+    -- behind the last mark
+    pub filled : (i : ℕ) (b : Buffers) (w : List ℕ) → Waits i b w → ¬ (i < marks g) → (say : Ending → A) (s : List A)
+        → Told say i s b → DecodesTray say g (left_tray (Ok tt) s b w)
+    filled i b w h stop say s t =
+        let all : i ≡ marks g = omega (arith, h.upto) in
+        let no_more : marks g - i ≡ 0 = omega arith in
+        does (checks_tray g) _ _ _ none (
+          refl,
+          record {
+            count = t.count;
+            arrays = h.arrays;
+            flags = h.flags;
+            marks = λ k more. t.done k (omega arith);
+          },
+          subst (λ (m : ℕ). Space m w) no_more h.space,
+        )

@@ -9,10 +9,10 @@ use mathlib.Core.Path.{◌≡◌, refl, sym, ◌∙◌}
 use mathlib.Core.Bool.{Bool, true, false}
 use mathlib.Core.List.{List, [], ◌∷◌}
 use Prim.Native.Nat.{ℕ, ◌≤◌}
-use native.Mathlib.Omega.{arith}
 use lib.ListN.{length}
 use borrow.Author.Tests.{le-ltb}
 use Rattle.refusal.specs.Refusal.{◌when◌, first, some_outside_field}
+use Rattle.refusal.specs.declared.Refusal.TheVariants.{Symbols}
 use Rattle.refusal.proofs.Ladders.{hit, miss, miss_last, same_behind}
 use Rattle.codes.specs.Code.{columns, joint_limit}
 use Rattle.codes.specs.Factors.{Description}
@@ -46,9 +46,9 @@ module _ (D : Description) (τ : ℕ) (common : Common D τ) (y : List ℕ) (len
       received array_size flags_size room _
       ∙ same_behind ((7 when bad) ∷ []) _ [] tt (λ _. miss 8 _ [] (le-ltb (joint_limit D.code) τ common.limit))
 
-  pub decoded_seven : bad ≡ true → Decoded D τ y lent (Refused 7) lent
+  pub decoded_seven : bad ≡ true → Decoded D τ y lent (Refused Symbols) lent
   decoded_seven b v room =
-      (v, refuses (checks_of (asked v)) lent v _ (sym (hit 7 bad [] b) ∙ sym (own_check v room)) (λ e. omega arith))
+      (v, refuses (checks_of (asked v)) lent v _ Symbols (sym (hit 7 bad [] b) ∙ sym (own_check v room)))
 
   module _ (good : bad ≡ false) where
     pub ready : ReadyLost D.code τ [] y

@@ -9,13 +9,13 @@ use native.Mathlib.Omega.{arith}
 use lib.Seq.{ext_get_or}
 use Rattle.refusal.proofs.Keeping as keeping
 use Rattle.codes.specs.Code.{columns}
-use Rattle.mark.specs.declared.Outcome.TheVariants.{Done, Refused}
+use Rattle.mark.specs.Promises.{success}
 use Rattle.ending.specs.Endings.{Buffers}
 use Rattle.ending.specs.declared.Ending.{Ending}
 use Rattle.ending.specs.declared.Ending.TheVariants.{Nothing}
 use Rattle.joint.specs.Promises.{Left, left, cleared}
 use Rattle.joint.proofs.Unique as single
-use Rattle.tray.specs.Promises.{GivenTray, LeftTray, left_tray, Alone, Fills, DecodesTray, alone, cells, mark_of, checks_tray}
+use Rattle.tray.specs.Promises.{GivenTray, LeftTray, refused_tray, Alone, Fills, DecodesTray, alone, cells, mark_of, checks_tray}
 use Rattle.tray.proofs.Places.{same_rows}
 use Rattle.tray.proofs.Filled.{marks, HasPassed, has_passed}
 
@@ -27,7 +27,7 @@ module _ {A : Type 0} (say : Ending → A) (g : GivenTray A) where
     same_mark = single.unique (alone g k) _ _ h.decodes h'.decodes
 
   -- all of them
-  module _ (p : HasPassed say g) (s s' : List A) (b b' : Buffers) (h : Fills say g s b) (h' : Fills say g s' b') where
+  module _ (p : HasPassed g) (s s' : List A) (b b' : Buffers) (h : Fills say g s b) (h' : Fills say g s' b') where
     same_answers : s ≡ s'
     same_answers = ext_get_or (say Nothing) s s' (h.count ∙ sym h'.count) (λ k r.
         let q : k < marks g = omega (arith, h.count) in
@@ -43,10 +43,10 @@ module _ {A : Type 0} (say : Ending → A) (g : GivenTray A) where
         (λ k q. ap (λ (l : Left). l.buffers.flags) (same_mark s s' b b' k (h.marks k q) (h'.marks k q)))
 
   pub unique : (l l' : LeftTray A) → DecodesTray say g l → DecodesTray say g l' → l ≡ l'
-  unique = keeping.unique (checks_tray g) (λ k. left_tray (Refused k) g.answers g.lent g.space)
-      (λ l. (l.outcome ≡ Done) × Fills say g l.answers l.buffers × (l.space ≡ cleared g.space))
+  unique = keeping.unique (checks_tray g) (refused_tray g)
+      (λ l. (l.outcome ≡ success) × Fills say g l.answers l.buffers × (l.space ≡ cleared g.space))
       (λ none l l' h h'.
-      let p = has_passed say g none in
+      let p = has_passed g none in
       let b = l.buffers in
       let b' = l'.buffers in
       λ i. record {

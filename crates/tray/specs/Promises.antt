@@ -1,7 +1,8 @@
 -- What the decoding of a tray promises: 02, 2026-01. An answer is an A, and `say` says an ending so: as a record, or as one number.
 
 --   answer_of e            the answer of an ending
---   GivenTray, LeftTray   what a call is given, and what it leaves; given_tray, left_tray, these of their parts
+--   GivenTray, LeftTray   what a call is given, and what it leaves; given_tray, left_tray, these of their parts; refused_tray g k,
+--                         what it leaves of the tray g refused with k
 --   cells c               the number of symbols of one array
 --   received_of c k y, mark_of c k b    of the received arrays and of the buffers of all marks, those of mark k
 --   alone g k             what a call for mark k alone would be given
@@ -11,12 +12,11 @@ use Rattle.std.specs.Prelude.{◌≡◌, Bool, ◌||◌, List, [], ◌∷◌, �
 use Rattle.patch.specs.Parts.{part}
 use Rattle.refusal.specs.Refusal.{Check, ◌when◌, outside}
 use Rattle.refusal.specs.Keeping.{Keeps}
-use Rattle.refusal.specs.Meaning.{number_of, detail_of}
+use Rattle.refusal.specs.Meaning.{Meaning, refusal, number_of, detail_of}
 use Rattle.codes.specs.Code.{Code, columns, rows, joint_limit}
 use Rattle.codes.specs.Factors.{Description}
 use Rattle.codes.specs.Checks.{code_checks, column_checks, wrong_length, space_bytes}
-use Rattle.mark.specs.declared.Outcome.{Outcome}
-use Rattle.mark.specs.declared.Outcome.TheVariants as outcomes
+use Rattle.mark.specs.Promises.{Outcome, success, meaning as outcome_meaning}
 use Rattle.ending.specs.Endings.{Buffers, meaning}
 use Rattle.ending.specs.declared.Ending.{Ending}
 use Rattle.ending.specs.declared.Ending.TheVariants.{Nothing}
@@ -36,7 +36,7 @@ pub record GivenTray (A : Type 0) : Type 0 where
   pub space : List ℕ
 
 pub record LeftTray (A : Type 0) : Type 0 where
-  pub outcome : Outcome
+  pub outcome : Meaning
   pub answers : List A
   pub buffers : Buffers
   pub space : List ℕ
@@ -45,7 +45,11 @@ abbrev pub given_tray : {A : Type 0} → Description → ℕ → List ℕ → Li
 given_tray D τ y s b w = record { description = D; limit = τ; received = y; answers = s; lent = b; space = w }
 
 abbrev pub left_tray : {A : Type 0} → Outcome → List A → Buffers → List ℕ → LeftTray A
-left_tray o s b w = record { outcome = o; answers = s; buffers = b; space = w }
+left_tray o s b w = record { outcome = outcome_meaning o; answers = s; buffers = b; space = w }
+
+-- 'refuse it whole with all lent memory unchanged'
+abbrev pub refused_tray : {A : Type 0} → GivenTray A → ℕ → LeftTray A
+refused_tray g k = record { outcome = refusal k; answers = g.answers; buffers = g.lent; space = g.space }
 
 abbrev pub cells : Code → ℕ
 cells c = rows c * columns c
@@ -93,5 +97,5 @@ checks_tray g =
 -- 'refuse it whole with all lent memory unchanged. Otherwise the first 49,152 bytes of the working space end zero and the rest is
 -- untouched.'
 abbrev pub DecodesTray : {A : Type 0} (say : Ending → A) → GivenTray A → LeftTray A → Type 0
-DecodesTray say g = Keeps (checks_tray g) (λ k. left_tray (outcomes.Refused k) g.answers g.lent g.space)
-    (λ l. (l.outcome ≡ outcomes.Done) × Fills say g l.answers l.buffers × (l.space ≡ cleared g.space))
+DecodesTray say g = Keeps (checks_tray g) (refused_tray g)
+    (λ l. (l.outcome ≡ success) × Fills say g l.answers l.buffers × (l.space ≡ cleared g.space))

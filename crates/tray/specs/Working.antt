@@ -4,16 +4,15 @@
 --   Common D τ            what the tray's checks leave of a description and a trial limit
 --   Shared c w            what all marks of the code c share is in the space w
 --   Begun c w₀ w          so it is, and behind the first 49,152 bytes w is as w₀
---   Opened c k w₀ w       the space when the tray is opened: begun, or as lent where k refuses it
+--   Opened c r w₀ w       the space when the tray is opened: begun, or as lent where it is refused
 --   cleared_if b w         the space w, cleared where b holds
---   marks_of k m           the marks to decode: all, or none
---   outcome_of k           the outcome
 --   Marking D τ y lent w  a mark by itself, and a space with what all marks share
 --   Decoded D τ y lent e left   the decoding of y, in whatever space, ends as e and turns the buffers lent into left
 --   Lies D τ k y b w      mark k lies in the lent slices, its place is a small number, and the space has what all marks share
---   Marked D τ k y b w a b' w'    the decoding of mark k answers a and turns the buffers b of all marks into b', and the space w into w'
-use Rattle.std.specs.Prelude.{◌≡◌, Bool, false, cond, List, ℕ, zero, suc, ◌+◌, ◌*◌, ◌≤◌, ◌<◌, eqb, length, drop}
+--   Marked D τ k y b w e b' w'    the decoding of mark k ends as e and turns the buffers b of all marks into b', and the space w into w'
+use Rattle.std.specs.Prelude.{◌≡◌, Bool, false, cond, List, ℕ, Result, Ok, Err, ◌+◌, ◌*◌, ◌≤◌, ◌<◌, eqb, length, drop}
 use Rattle.patch.specs.Parts.{part, lay}
+use Rattle.refusal.specs.declared.Refusal.{Refusal}
 use Rattle.field.specs.Working.Tables.{table_bytes, IsTable}
 use Rattle.rows.specs.Working.Rows.{Inverses}
 use Rattle.codes.specs.Code.{Code, columns, rows, largest, joint_limit}
@@ -22,14 +21,11 @@ use Rattle.codes.specs.Checks.{unchecked, space_bytes}
 use Rattle.codes.proofs.Passed.{Counts}
 use Rattle.codes.proofs.Proper.{Proper}
 use Rattle.codes.proofs.Factors.{Factors}
-use Rattle.mark.specs.declared.Outcome.{Outcome}
-use Rattle.mark.specs.declared.Outcome.TheVariants.{Done, Refused}
 use Rattle.ending.specs.Endings.{Buffers}
 use Rattle.ending.specs.declared.Ending.{Ending}
 use Rattle.conditions.specs.Working.{most_inverses}
 use Rattle.joint.specs.Promises.{Decodes, given, left, cleared}
-use Rattle.tray.specs.declared.Answer.{Answer}
-use Rattle.tray.specs.Promises.{answer_of, cells, received_of, mark_of}
+use Rattle.tray.specs.Promises.{cells, received_of, mark_of}
 
 abbrev pub table_of : List ℕ → List ℕ
 table_of w = part 0 table_bytes w
@@ -54,20 +50,12 @@ pub record Begun (c : Code) (w₀ w : List ℕ) : Type 0 where
   pub long : length w ≡ length w₀
   pub behind : drop space_bytes w ≡ drop space_bytes w₀
 
-abbrev pub Opened : (c : Code) (k : ℕ) (w₀ w : List ℕ) → Type 0
-Opened c zero w₀ w = Begun c w₀ w
-Opened c (suc k) w₀ w = w ≡ w₀
+abbrev pub Opened : Code → Result Unit Refusal → (w₀ w : List ℕ) → Type 0
+Opened c (Ok _) w₀ w = Begun c w₀ w
+Opened c (Err _) w₀ w = w ≡ w₀
 
 abbrev pub cleared_if : Bool → List ℕ → List ℕ
 cleared_if b w = cond b (cleared w) w
-
-abbrev pub marks_of : ℕ → ℕ → ℕ
-marks_of zero m = m
-marks_of (suc k) m = 0
-
-abbrev pub outcome_of : ℕ → Outcome
-outcome_of zero = Done
-outcome_of (suc k) = Refused (suc k)
 
 pub record Marking (D : Description) (τ : ℕ) (y : List ℕ) (lent : Buffers) (w : List ℕ) : Type 0 where
   pub common : Common D τ
@@ -89,12 +77,10 @@ pub record Lies (D : Description) (τ k : ℕ) (y : List ℕ) (b : Buffers) (w :
   pub flags : k * columns D.code + columns D.code ≤ length b.flags
   pub shared : Shared D.code w
 
-pub record Marked (D : Description) (τ k : ℕ) (y : List ℕ) (b : Buffers) (w : List ℕ) (a : Answer) (b' : Buffers)
+pub record Marked (D : Description) (τ k : ℕ) (y : List ℕ) (b : Buffers) (w : List ℕ) (e : Ending) (b' : Buffers)
     (w' : List ℕ) : Type 0 where
-  pub ending : Ending
   pub own : Buffers
-  pub decoded : Decoded D τ (received_of D.code k y) (mark_of D.code k b) ending own
-  pub answer : a ≡ answer_of ending
+  pub decoded : Decoded D τ (received_of D.code k y) (mark_of D.code k b) e own
   pub array_size : length own.array ≡ cells D.code
   pub flags_size : length own.flags ≡ columns D.code
   pub array : b'.array ≡ lay (k * cells D.code) own.array b.array

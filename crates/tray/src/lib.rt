@@ -4,6 +4,7 @@
 ghost use Rattle.std.specs.Prelude.{◌≡◌, false, List, [], ℕ, ◌+◌, ◌*◌, ◌≤◌, length};
 ghost use Rattle.refusal.specs.Refusal.{first, some_outside_field};
 ghost use Rattle.refusal.specs.Meaning.{packed};
+ghost use Rattle.refusal.specs.Numbers.{refused};
 ghost use Rattle.codes.specs.Code.{code_of};
 ghost use Rattle.codes.specs.Factors.{description_of};
 ghost use Rattle.codes.specs.Checks.{space_bytes};
@@ -11,23 +12,38 @@ ghost use Rattle.codes.proofs.Passed.{Counts};
 ghost use Rattle.codes.proofs.Proper.{Proper};
 ghost use Rattle.array_checks.specs.Working.{Sizes};
 ghost use Rattle.ending.specs.Endings.{meaning};
+ghost use Rattle.ending.specs.declared.Ending.{Ending};
 ghost use Rattle.joint.specs.Promises.{buffers};
 ghost use Rattle.joint.specs.Working.{StruckEnds};
 ghost use Rattle.tray.specs.Promises.{DecodesTray, answer_of, given_tray, left_tray, tray_checks, wrong_lengths};
-ghost use Rattle.tray.specs.Working.{Begun, Decoded, Lies, Marked, Marking, Opened, cleared_if, marks_of, outcome_of};
+ghost use Rattle.tray.specs.Working.{Begun, Decoded, Lies, Marked, Marking, Opened, cleared_if};
 
 use array_checks::SPACE;
 use conditions::INVERSES;
 use ending::Ending;
-use field::tables;
-use field::tables::LENT;
-use mark::Outcome;
+use field::{Field, LENT};
+use refusal::Refusal;
 
-// A mark's ending and its detail: 01's code and detail.
+// A mark's ending and its detail: 01's code and detail. They are numbers, since 02 asks for this record and its promise is over them.
 #[derive(Clone, Copy)]
 pub struct Answer {
     pub ending: u8,
     pub detail: u8,
+}
+
+impl From<Ending> for Answer {
+    ghost from_gives = { λ ending answer. answer ≡ answer_of ending };
+
+    fn from(ending: Ending) -> Answer {
+        let (ending, detail) = match ending {
+            Ending::Refused(refused) => (0, refused.number()),
+            Ending::Corrected(w) => (1, w),
+            Ending::Nothing => (2, 0),
+            Ending::Several(t) => (3, t),
+            Ending::Hollow(t) => (4, t),
+        };
+        Answer { ending, detail }
+    }
 }
 
 // Whether number 5 applies to a tray of up to 64 marks: one of its lengths is wrong.
@@ -58,7 +74,7 @@ fn wrong_lengths(
         | (factors.len() != n)
 }
 
-// The first of a tray's checks that applies, 0 where none does. Of the buffers the checks read the lengths alone.
+// Refuses by the first of a tray's checks that applies. Of the buffers the checks read the lengths alone.
 fn tray_refusal(
     degree: u32,
     lengths: &[u8],
@@ -70,55 +86,43 @@ fn tray_refusal(
     arrays: usize,
     flags: usize,
     space: usize,
-) -> u8
+) -> Result<(), Refusal>
     ensures { (y a f w : List ℕ) → length y ≡ received → length a ≡ arrays → length f ≡ flags → length w ≡ space
-        → result ≡ first (tray_checks (description_of degree points.now factors.now lengths.now) limit marks
+        → refused result ≡ first (tray_checks (description_of degree points.now factors.now lengths.now) limit marks
         y a f w) }
 {
-    let k = array_checks::code_refusal(96, degree, lengths, points);
-    if k != 0 {
-        return k;
-    }
+    array_checks::code_refusal(96, degree, lengths, points)?;
     let count = refusal::outside(1, 64, marks);
     let size = wrong_lengths(
         lengths, points, factors, received, marks, arrays, flags, space,
     );
     if count {
-        return 15;
+        return Err(Refusal::Marks);
     }
     if size {
-        return 5;
+        return Err(Refusal::Buffers);
     }
-    let of_columns = array_checks::columns_refusal(degree, points, factors);
-    if of_columns != 0 {
-        return of_columns;
-    }
+    array_checks::columns_refusal(degree, points, factors)?;
     if array_checks::joint_limit(lengths, points) < limit as usize {
-        return 8;
+        return Err(Refusal::Limit);
     }
-    0
+    Ok(())
 }
 
-// Works out what all marks of a code share, at the front of the working space: the field's table, and behind it the inverses of the
+// Works out what all marks of a code share, at the front of the working space: the inverses of the field's symbols, and behind them the inverses of the
 // longest row's rounds.
 fn share(degree: u32, lengths: &[u8], points: &[u8], space: &mut [u8])
     requires { Counts (code_of degree points.now lengths.now) × Proper (code_of degree points.now lengths.now)
         × (space_bytes ≤ length space.old) }
     ensures { Begun (code_of degree points.now lengths.now) space.old space.new }
 {
-    let table = tables::lend(degree);
-    rows::store(&table, space, 0);
+    let field = Field::new(degree);
+    rows::store(&field.inverses, space, 0);
     rows::clear(space, LENT, INVERSES);
-    conditions::inverses(
-        &table,
-        degree,
-        lengths,
-        points,
-        &mut space[LENT..LENT + INVERSES],
-    );
+    conditions::inverses(&field, lengths, points, &mut space[LENT..LENT + INVERSES]);
 }
 
-// Opens a tray: the number that refuses it whole, which touches nothing; or 0, with what all marks share in the working space.
+// Opens a tray: refuses it whole, which touches nothing, or works out what all marks share in the working space.
 fn open(
     degree: u32,
     lengths: &[u8],
@@ -130,13 +134,13 @@ fn open(
     arrays: usize,
     flags: usize,
     space: &mut [u8],
-) -> u8
+) -> Result<(), Refusal>
     ensures { ((y a f : List ℕ) → length y ≡ received → length a ≡ arrays → length f ≡ flags
-        → result ≡ first (tray_checks (description_of degree points.now factors.now lengths.now) limit marks
+        → refused result ≡ first (tray_checks (description_of degree points.now factors.now lengths.now) limit marks
         y a f space.old))
         × Opened (code_of degree points.now lengths.now) result space.old space.new }
 {
-    let k = tray_refusal(
+    tray_refusal(
         degree,
         lengths,
         points,
@@ -147,57 +151,9 @@ fn open(
         arrays,
         flags,
         space.len(),
-    );
-    if k == 0 {
-        share(degree, lengths, points, space);
-    }
-    k
-}
-
-// The marks to decode: none where the tray is refused.
-fn marks_left(k: u8, marks: usize) -> usize
-    ensures { result ≡ marks_of k marks }
-{
-    if k == 0 { marks } else { 0 }
-}
-
-// The outcome of a tray that k refuses, or, being 0, does not.
-fn outcome(k: u8) -> Outcome
-    ensures { result ≡ outcome_of k }
-{
-    if k == 0 {
-        Outcome::Done
-    } else {
-        Outcome::Refused(k)
-    }
-}
-
-// The answer of an ending.
-fn answer_of(ending: Ending) -> Answer
-    ensures { result ≡ answer_of ending }
-{
-    match ending {
-        Ending::Refused(k) => Answer {
-            ending: 0,
-            detail: k,
-        },
-        Ending::Corrected(w) => Answer {
-            ending: 1,
-            detail: w,
-        },
-        Ending::Nothing => Answer {
-            ending: 2,
-            detail: 0,
-        },
-        Ending::Several(t) => Answer {
-            ending: 3,
-            detail: t,
-        },
-        Ending::Hollow(t) => Answer {
-            ending: 4,
-            detail: t,
-        },
-    }
+    )?;
+    share(degree, lengths, points, space);
+    Ok(())
 }
 
 // Decodes a mark whose symbols are of the field, with what the space has for all marks. The solver has a room of its own.
@@ -221,9 +177,9 @@ fn work_mark(
     let mut table = [0u8; LENT];
     let mut lines = [0u8; 3840];
     rows::store(&space[..LENT], &mut table, 0);
+    let field = Field::lent(degree, table);
     joint::decode_struck(
-        &table,
-        degree,
+        &field,
         lengths,
         points,
         &space[LENT..LENT + INVERSES],
@@ -257,7 +213,7 @@ fn end_mark(
         (buffers array.new flags.new) }
 {
     if refusal::some_outside_field(degree, received) {
-        return Ending::Refused(7);
+        return Ending::Refused(Refusal::Symbols);
     }
     work_mark(
         degree, lengths, points, factors, limit, received, array, flags, space,
@@ -274,7 +230,7 @@ fn clear_behind(last: bool, space: &mut [u8])
     }
 }
 
-// Decodes mark k of a tray that passed its checks; behind the last one the working space is cleared.
+// How mark k of a tray ends that passed its checks; behind the last one the working space is cleared.
 fn decode_mark(
     k: usize,
     degree: u32,
@@ -286,7 +242,7 @@ fn decode_mark(
     arrays: &mut [u8],
     flags: &mut [u8],
     space: &mut [u8],
-) -> Answer
+) -> Ending
     requires { Lies (description_of degree points.now factors.now lengths.now) limit k received.now
         (buffers arrays.old flags.old) space.old }
     ensures { Marked (description_of degree points.now factors.now lengths.now) limit k
@@ -309,7 +265,47 @@ fn decode_mark(
         space,
     );
     clear_behind(at + cells == arrays.len(), space);
-    answer_of(ending)
+    ending
+}
+
+// Decodes up to 64 marks of one code, whose arrays lie one after another; say makes the answer of an ending.
+fn decode_all<A: Copy, F: Fn(Ending) -> A>(
+    degree: u32,
+    lengths: &[u8],
+    points: &[u8],
+    factors: &[u8],
+    limit: u32,
+    received: &[u8],
+    answers: &mut [A],
+    arrays: &mut [u8],
+    flags: &mut [u8],
+    space: &mut [u8],
+    say: F,
+) -> Result<(), Refusal>
+    requires { F.IsAlwaysCallable say }
+    ensures { (tell : Ending → A) → ((e : Ending) (a : A) → F.post say e a → a ≡ tell e)
+        → DecodesTray tell (given_tray (description_of degree points.now factors.now lengths.now) limit received.now
+        answers.old (buffers arrays.old flags.old) space.old)
+        (left_tray result answers.new (buffers arrays.new flags.new) space.new) }
+{
+    open(
+        degree,
+        lengths,
+        points,
+        factors,
+        limit,
+        received.len(),
+        answers.len(),
+        arrays.len(),
+        flags.len(),
+        space,
+    )?;
+    for k in 0..answers.len() {
+        answers[k] = say(decode_mark(
+            k, degree, lengths, points, factors, limit, received, arrays, flags, space,
+        ));
+    }
+    Ok(())
 }
 
 // Decodes up to 64 marks of one code, whose arrays lie one after another: refusals 1 to 4, 18, 15, 5, 6, 23 and 8, which touch
@@ -326,40 +322,25 @@ pub fn decode(
     arrays: &mut [u8],
     flags: &mut [u8],
     space: &mut [u8],
-) -> Outcome
+) -> Result<(), Refusal>
     ensures { DecodesTray answer_of
         (given_tray (description_of degree points.now factors.now lengths.now) limit received.now
         answers.old (buffers arrays.old flags.old) space.old)
         (left_tray result answers.new (buffers arrays.new flags.new) space.new) }
 {
-    let refused = open(
+    decode_all(
         degree,
         lengths,
         points,
         factors,
         limit,
-        received.len(),
-        answers.len(),
-        arrays.len(),
-        flags.len(),
+        received,
+        answers,
+        arrays,
+        flags,
         space,
-    );
-    let marks = marks_left(refused, answers.len());
-    let mut k = 0;
-    while k < marks {
-        answers[k] = decode_mark(
-            k, degree, lengths, points, factors, limit, received, arrays, flags, space,
-        );
-        k += 1;
-    }
-    outcome(refused)
-}
-
-// The one number of an answer: 256 times its ending, and its detail.
-fn number(answer: Answer) -> u32
-    ensures { result ≡ 256 * answer.ending + answer.detail }
-{
-    256 * answer.ending as u32 + answer.detail as u32
+        Answer::from,
+    )
 }
 
 // For the C interface: `decode` with each answer as one number.
@@ -374,31 +355,23 @@ pub fn decode_numbers(
     arrays: &mut [u8],
     flags: &mut [u8],
     space: &mut [u8],
-) -> Outcome
+) -> Result<(), Refusal>
     ensures { DecodesTray (λ e. packed (meaning e))
         (given_tray (description_of degree points.now factors.now lengths.now) limit received.now
         answers.old (buffers arrays.old flags.old) space.old)
         (left_tray result answers.new (buffers arrays.new flags.new) space.new) }
 {
-    let refused = open(
+    decode_all(
         degree,
         lengths,
         points,
         factors,
         limit,
-        received.len(),
-        answers.len(),
-        arrays.len(),
-        flags.len(),
+        received,
+        answers,
+        arrays,
+        flags,
         space,
-    );
-    let marks = marks_left(refused, answers.len());
-    let mut k = 0;
-    while k < marks {
-        answers[k] = number(decode_mark(
-            k, degree, lengths, points, factors, limit, received, arrays, flags, space,
-        ));
-        k += 1;
-    }
-    outcome(refused)
+        Ending::packed,
+    )
 }

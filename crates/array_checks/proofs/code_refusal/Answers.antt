@@ -1,4 +1,4 @@
--- `code_refusal` is the number of the first of the checks 1 to 4 and 18 that applies.
+-- `code_refusal` gives the first of the checks 1 to 4 and 18 that applies.
 use Rattle.std.proofs.Common.{◌≡◌, ℕ, List, drop, sym, ◌∙◌}
 use Rattle.refusal.specs.Refusal.{Check, first}
 use Rattle.refusal.proofs.Ladders.{hit, miss, miss_last}

@@ -1,4 +1,4 @@
--- `encode_refusal` is the number of the first check of encoding that applies.
+-- `encode_refusal` gives the first check of encoding that applies.
 -- Assumes nothing.
 use mathlib.Core.Path.{refl}
 use borrow.Author.Rules.{rules}

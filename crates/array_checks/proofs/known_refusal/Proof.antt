@@ -1,4 +1,4 @@
--- `known_refusal` is the number of the first of the checks 6 and 23 that applies.
+-- `known_refusal` gives the first of the checks 6 and 23 that applies.
 -- Assumes nothing.
 use mathlib.Core.Path.{sym, ◌∙◌}
 use Rattle.refusal.proofs.Ladders.{hit, miss, miss_last}

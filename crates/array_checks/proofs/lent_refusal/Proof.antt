@@ -1,4 +1,4 @@
--- `lent_refusal` is the number of the first of the checks 5, 6, 23 and 7 of decoding that applies.
+-- `lent_refusal` gives the first of the checks 5, 6, 23 and 7 of decoding that applies.
 -- Assumes nothing.
 use mathlib.Core.Path.{◌≡◌, refl, sym, ap, ap₂, ◌∙◌}
 use mathlib.Core.Bool.{Bool, not, ◌||◌}

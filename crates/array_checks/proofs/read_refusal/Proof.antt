@@ -1,4 +1,4 @@
--- `read_refusal` is the number of the first of the checks 1 to 7 of reading that applies.
+-- `read_refusal` gives the first of the checks 1 to 7 of reading that applies.
 -- Assumes nothing.
 use mathlib.Core.Path.{refl}
 use borrow.Author.Rules.{rules}

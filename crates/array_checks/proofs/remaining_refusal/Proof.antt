@@ -1,4 +1,4 @@
--- `remaining_refusal` is the number of the first of the checks 16, 17 and 8 that applies: what is left is all less the
+-- `remaining_refusal` gives the first of the checks 16, 17 and 8 that applies: what is left is all less the
 -- lost, so that as many points of the front serve for the limit.
 -- Assumes nothing.
 use mathlib.Core.Path.{◌≡◌, sym, ◌∙◌}

@@ -18,7 +18,7 @@ pub returns-then-more-eq0 : goal.returns-then-more-eq0
 returns-then-more-eq0 t c =
     let a = c.args in
     subst
-    (λ (l : List (List ℕ)). Turned (description_of a.degree a.points.now a.factors.now a.lengths.now) a.array.now l a.count a.room.now
+    (λ (l : List (List ℕ)). Turned (description_of a.field.now.degree a.points.now a.factors.now a.lengths.now) a.array.now l a.count a.room.now
     c.try_set.result c.try_set.new.room)
     (last_turn c.requires c.if-more-eq0.true) c.try_set.ensures
 

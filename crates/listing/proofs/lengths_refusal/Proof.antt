@@ -1,4 +1,4 @@
--- `lengths_refusal` is the number of the first of the checks 5 and 22 that applies.
+-- `lengths_refusal` gives the first of the checks 5 and 22 that applies.
 -- Assumes nothing.
 use mathlib.Core.Path.{◌≡◌, sym, ap, ◌∙◌}
 use mathlib.Core.Bool.{true, false, not}

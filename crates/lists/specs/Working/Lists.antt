@@ -8,9 +8,8 @@
 --   summed_at, scaled_at, added_at, carried_at, multiplied_at    l when all of the part is written
 --   SymbolsAt d l at n          the part of l from at on has n symbols
 --   Multiplying                 what the loop that multiplies asks for
-use Rattle.std.specs.Prelude.{◌≡◌, false, ℕ, ◌+◌, ◌^◌, ◌≤◌, ◌<◌, List, length, get_or}
+use Rattle.std.specs.Prelude.{ℕ, ◌+◌, ◌^◌, ◌≤◌, ◌<◌, List, length, get_or}
 use Rattle.patch.specs.Patch.{patch}
-use Rattle.refusal.specs.Refusal.{bad_degree}
 use Rattle.field.specs.Symbols.{plus, times}
 
 unfoldable pub summed : List ℕ → List ℕ → ℕ → ℕ → ℕ
@@ -47,7 +46,6 @@ abbrev pub SymbolsAt : ℕ → List ℕ → ℕ → ℕ → Type 0
 SymbolsAt d l at n = (k : ℕ) → k < n → get_or l (at + k) 0 < 2 ^ d
 
 pub record Multiplying (d : ℕ) (w : List ℕ) (a : ℕ) (l : List ℕ) (at b : ℕ) : Type 0 where
-  pub degree : bad_degree d ≡ false
   pub left : a < 2 ^ d
   pub right : b < 2 ^ d
   pub room : at + length w ≤ length l

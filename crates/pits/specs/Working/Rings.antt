@@ -15,7 +15,6 @@ use Rattle.std.specs.Prelude.{◌≡◌, Bool, false, not, ℕ, zero, suc, ◌+�
 use mathlib.Core.List.{List, ◌++◌, map, flat_map}
 use Rattle.patch.specs.Patch.{patch}
 use Rattle.patch.specs.Parts.{lay}
-use Rattle.field.specs.Working.Tables.{Lent}
 use Rattle.lists.specs.Working.Lists.{multiplied_at}
 use Rattle.basis.proofs.Basis.{Form}
 use Rattle.hermitian.specs.Ring.{numbers, sector, IsRing}
@@ -61,8 +60,7 @@ leads_laid q m leads =
 
 -- ---- What is asked for, and what is left.
 
-pub record Laying (d : ℕ) (table ys w : List ℕ) (first n : ℕ) (l : List ℕ) : Type 0 where
-  pub lent : Lent d table
+pub record Laying (d : ℕ) (ys w : List ℕ) (first n : ℕ) (l : List ℕ) : Type 0 where
   pub narrow : length ys ≤ 128
   pub enough : length ys ≤ length w
   pub factors : Symbols d (length ys) ys
@@ -70,26 +68,24 @@ pub record Laying (d : ℕ) (table ys w : List ℕ) (first n : ℕ) (l : List �
   pub few : first + n ≤ 8
   pub room : length ys * (first + n) ≤ length l
 
-pub record Starting (q : ℕ) (table ys r l : List ℕ) : Type 0 where
+pub record Starting (q : ℕ) (ys r l : List ℕ) : Type 0 where
   pub size : bad_size q ≡ false
-  pub lent : Lent q table
   pub ring : IsRing q r
   pub wide : length ys ≡ q * q * q + q * q * q
   pub factors : Symbols q (length ys) ys
   pub long : length l ≡ 1024
 
-pub record Given (q m : ℕ) (table xs ys r : List ℕ) : Type 0 where
+pub record Given (q m : ℕ) (xs ys r : List ℕ) : Type 0 where
   pub size : bad_size q ≡ false
   pub order : bad_order q m ≡ false
-  pub lent : Lent q table
   pub ring : IsRing q r
   pub wide : length xs ≡ q * q * q + q * q * q
   pub high : length ys ≡ q * q * q + q * q * q
   pub columns : Twice (q * q * q) (λ i. (point q i).0) xs
   pub ordinates : Twice (q * q * q) (λ i. (point q i).1) ys
 
-pub record Solving (q m : ℕ) (table xs ys r us leads l : List ℕ) : Type 0 where
-  pub given : Given q m table xs ys r
+pub record Solving (q m : ℕ) (xs ys r us leads l : List ℕ) : Type 0 where
+  pub given : Given q m xs ys r
   pub flags : length us ≡ q * q * q
   pub eight : length leads ≡ 8
   pub long : length l ≡ 1024
@@ -104,8 +100,8 @@ Weighs q m r w = (i : ℕ) → i < q * q * q → flagged w i ≡ used q m r i
 unfoldable pub answer_over : (q m : ℕ) (r us : List ℕ) → List ℕ
 answer_over q m r us = answer_by q m r (ran q m r (flagged us))
 
-pub record Answering (q m : ℕ) (table xs ys r us out : List ℕ) : Type 0 where
-  pub given : Given q m table xs ys r
+pub record Answering (q m : ℕ) (xs ys r us out : List ℕ) : Type 0 where
+  pub given : Given q m xs ys r
   pub flags : length us ≡ q * q * q
   pub room : length out ≡ q * q * q
 

@@ -12,7 +12,7 @@
 --   stepped d xs s i τ       leads and slots after a step at condition i: the pivot is the first line of lowest lead among those whose
 --                            value is not zero, and its lead rises by s
 --   ran d xs s used n τ      after the steps at the conditions below n that are used
---   Laid d table xs s l      the lines have symbols, and there is room for s of them; MixingLine, Mixing, Turning, Stepping, Running,
+--   Laid d xs s l            the lines have symbols, and there is room for s of them; MixingLine, Mixing, Turning, Stepping, Running,
 --                            what the functions ask for
 --   Least leads s r          of s lines, r is the number of one of least lead
 use Rattle.std.specs.Prelude.{◌≡◌, List, ℕ, zero, suc, ◌+◌, ◌*◌, ◌^◌, ◌≤◌, ◌<◌, length, get_or, set, replicate}
@@ -21,7 +21,6 @@ use Rattle.std.proofs.Math.Decide.{ℕ_discrete}
 use Rattle.patch.specs.Patch.{patch}
 use Rattle.patch.specs.Parts.{part}
 use Rattle.field.specs.Symbols.{over}
-use Rattle.field.specs.Working.Tables.{Lent}
 use Rattle.lists.specs.Working.Lists.{added_at, multiplied_at}
 use Rattle.solver.specs.Working.Scan.{first_lowest}
 
@@ -74,8 +73,7 @@ module _ (d : ℕ) (xs : List ℕ) where
       ran zero τ = τ
       ran (suc n) τ = ran_by n (ran n τ) (ℕ_discrete (get_or used n 0) 0)
 
-pub record MixingLine (d : ℕ) (table ds : List ℕ) (p : ℕ) (w : List ℕ) (j : ℕ) (l : List ℕ) : Type 0 where
-  pub lent : Lent d table
+pub record MixingLine (d : ℕ) (ds : List ℕ) (p : ℕ) (w : List ℕ) (j : ℕ) (l : List ℕ) : Type 0 where
   pub pivot : p < 8
   pub line : j < 8
   pub value : get_or ds j 0 < 2 ^ d
@@ -83,36 +81,34 @@ pub record MixingLine (d : ℕ) (table ds : List ℕ) (p : ℕ) (w : List ℕ) (
   pub nonzero : get_or ds p 0 ≡ 0 → ⊥
   pub room : length w * j + length w ≤ length l
 
-pub record Mixing (d : ℕ) (table ds : List ℕ) (p : ℕ) (w : List ℕ) (s : ℕ) (l : List ℕ) : Type 0 where
-  pub lent : Lent d table
+pub record Mixing (d : ℕ) (ds : List ℕ) (p : ℕ) (w : List ℕ) (s : ℕ) (l : List ℕ) : Type 0 where
   pub pivot : p < s
   pub few : s ≤ 8
   pub values : Symbols d s ds
   pub nonzero : get_or ds p 0 ≡ 0 → ⊥
   pub room : length w * s ≤ length l
 
-pub record Laid (d : ℕ) (table xs : List ℕ) (s : ℕ) (l : List ℕ) : Type 0 where
-  pub lent : Lent d table
+pub record Laid (d : ℕ) (xs : List ℕ) (s : ℕ) (l : List ℕ) : Type 0 where
   pub points : Symbols d (length xs) xs
   pub narrow : length xs ≤ 128
   pub few : s ≤ 8
   pub room : length xs * s ≤ length l
   pub symbols : SlotsIn d (length xs) s l
 
-pub record Turning (d : ℕ) (table xs : List ℕ) (i s : ℕ) (ds : List ℕ) (p : ℕ) (l : List ℕ) : Type 0 where
-  pub laid : Laid d table xs s l
+pub record Turning (d : ℕ) (xs : List ℕ) (i s : ℕ) (ds : List ℕ) (p : ℕ) (l : List ℕ) : Type 0 where
+  pub laid : Laid d xs s l
   pub here : i < length xs
   pub pivot : p < s
   pub values : Symbols d s ds
   pub nonzero : get_or ds p 0 ≡ 0 → ⊥
 
-pub record Stepping (d : ℕ) (table xs : List ℕ) (i s : ℕ) (leads l : List ℕ) : Type 0 where
-  pub laid : Laid d table xs s l
+pub record Stepping (d : ℕ) (xs : List ℕ) (i s : ℕ) (leads l : List ℕ) : Type 0 where
+  pub laid : Laid d xs s l
   pub here : i < length xs
   pub low : Low s 65535 leads
 
-pub record Running (d : ℕ) (table xs used : List ℕ) (s : ℕ) (leads l : List ℕ) : Type 0 where
-  pub laid : Laid d table xs s l
+pub record Running (d : ℕ) (xs used : List ℕ) (s : ℕ) (leads l : List ℕ) : Type 0 where
+  pub laid : Laid d xs s l
   pub short : length used ≤ length xs
   pub low : Low s 4096 leads
 

@@ -1,4 +1,4 @@
--- `length_refusal` is the number of the first of the checks 4 and 18 that applies: the largest length decides.
+-- `length_refusal` gives the first of the checks 4 and 18 that applies: the largest length decides.
 -- Assumes nothing.
 use mathlib.Core.Path.{sym, ◌∙◌}
 use native.Mathlib.Omega.{arith}

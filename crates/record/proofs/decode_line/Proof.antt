@@ -26,20 +26,20 @@ decode-requires c κs = let s = c in
 
 -- where the record is decoded
 module _ (c : tie.After-decode-ending) where
-  abbrev read : tie.After-wide-n
+  abbrev read : tie.After-from-n
   read = c.before.before.before.before
 
   abbrev start : tie.Start
   start = read.before.before.before.before.before
 
   abbrev n : ℕ
-  n = read.wide-n.result
+  n = read.from-n.result
 
   abbrev flags : List ℕ
   flags = c.decode-ending.new.flags
 
   few : n ≤ 96
-  few = omega (arith, read.wide-n.ensures, (columns-most _ (held start).inside).1)
+  few = omega (arith, read.from-n.ensures, (columns-most _ (held start).inside).1)
 
   room : n ≤ length flags
   room = omega (arith, few, c.decode-ending.auto)
@@ -51,7 +51,7 @@ returns c = let d = c.before.before.before.before.before.before.before.before.be
     let line = c.put_line in
     let is = d.decode-ending.ensures in
     let front : take (n d) (flags d) ≡ take (columns_in s.bytes.now) (flags d) =
-    ap (λ (k : ℕ). take k (flags d)) (read d).wide-n.ensures in
+    ap (λ (k : ℕ). take k (flags d)) (read d).from-n.ensures in
     record {
       line = line_of s.number e (take (n d) (flags d));
       of_record = record {

@@ -25,7 +25,7 @@ module _ (c : tie.After-merge_flags-marks) where
   start = c.before.before.before.before.before.before.before.before
 
   abbrev code : Code
-  code = code_of start.args.degree start.args.points.now start.args.lengths.now
+  code = code_of start.args.field.now.degree start.args.points.now start.args.lengths.now
 
   abbrev n : ℕ
   n = length start.args.points.now
@@ -53,7 +53,7 @@ module _ (c : tie.After-merge_flags-marks) where
 
   answer_size : length (filled code y (to_fill marks)) ≡ length y
   answer_size =
-      rows-length start.args.degree (to_fill marks) start.args.points.now (fill_count marks ∙ marks_size)
+      rows-length start.args.field.now.degree (to_fill marks) start.args.points.now (fill_count marks ∙ marks_size)
       start.args.lengths.now y start.requires.0.received.count
       ∙ sym start.requires.0.received.count
 

@@ -8,13 +8,12 @@
 --   newton_values d nodes us xs   the values at xs of the polynomial with the Newton coefficients us at the nodes
 --   evaluated_at            a list when a part of it is written with these values
 --   Inverses d xs k ws     ws are symbols, and have the inverses of k rounds, those of round j from place 96·j on
---   Inverting, Evaluating  what taking the inverses of a round, and what evaluation asks for; t is the field's table
+--   Inverting, Evaluating  what taking the inverses of a round, and what evaluation asks for
 use Rattle.std.specs.Prelude.{◌≡◌, ℕ, ◌+◌, ◌-◌, ◌*◌, ◌≤◌, ◌<◌, List, map, length, get_or}
 use Rattle.patch.specs.Patch.{patch}
 use Rattle.patch.specs.Parts.{lay}
 use Rattle.field.specs.Symbols.{IsSymbol, plus, over}
 use Rattle.field.specs.Arithmetic.{gf}
-use Rattle.field.specs.Working.Tables.{Lent}
 use Rattle.poly.specs.Poly.{All}
 use Rattle.poly.proofs.Forms.{newton_value_lem}
 use Rattle.poly.proofs.Roots.{Distinct}
@@ -47,14 +46,12 @@ pub record Inverses (d : ℕ) (xs : List ℕ) (k : ℕ) (ws : List ℕ) : Type 0
   pub symbols : All (IsSymbol d) ws
   pub each : (j i : ℕ) → j < k → i < length xs - (j + 1) → get_or ws (96 * j + i) 0 ≡ inverse d xs j i
 
-pub record Inverting (d : ℕ) (t xs : List ℕ) (j : ℕ) (l : List ℕ) (at : ℕ) : Type 0 where
-  pub lent : Lent d t
+pub record Inverting (d : ℕ) (xs : List ℕ) (j : ℕ) (l : List ℕ) (at : ℕ) : Type 0 where
   pub points : Points d xs
   pub place : j < length xs
   pub room : at + length xs ≤ length l
 
-pub record Evaluating (d : ℕ) (t xs nodes us l : List ℕ) (at : ℕ) : Type 0 where
-  pub lent : Lent d t
+pub record Evaluating (d : ℕ) (xs nodes us l : List ℕ) (at : ℕ) : Type 0 where
   pub points : All (IsSymbol d) xs
   pub nodes_in : All (IsSymbol d) nodes
   pub coefficients : All (IsSymbol d) us

@@ -17,18 +17,18 @@ held : (c : tie.Start) → Whole c.args.bytes.now
 held c = whole_of _ c.requires.of.whole
 
 -- where the counts are read
-module _ (c : tie.After-wide-n) where
+module _ (c : tie.After-from-n) where
   abbrev start : tie.Start
   start = c.before.before.before.before.before.before.before.before
 
   abbrev r : ℕ
-  r = c.wide-r.result
+  r = c.from-r.result
 
   abbrev n : ℕ
-  n = c.wide-n.result
+  n = c.from-n.result
 
   sizes : Sizes start.args.bytes.now r n
-  sizes = sizes_of (held start).inside c.wide-r.ensures c.wide-n.ensures
+  sizes = sizes_of (held start).inside c.from-r.ensures c.from-n.ensures
 
   cells : r * n ≤ length start.args.array.now
   cells = omega (arith, sizes.cells, start.requires.symbols)
@@ -51,7 +51,7 @@ module _ (c : tie.After-wide-n) where
       let e : 6 + r + n - 2 ≡ 4 + r + n = omega arith in
       rw e (length-take-le (4 + r + n) (drop 2 bytes) (omega (arith, length-drop 2 bytes, sizes.total, (held start).complete)))
 
-abbrev read : tie.After-rewrite-arg-2-1 → tie.After-wide-n
+abbrev read : tie.After-rewrite-arg-2-1 → tie.After-from-n
 read c = c.before.before.before
 
 returns : tie.Need-returns
@@ -59,8 +59,8 @@ returns c = let line = c.put_kept in
     let w = c.before.before.before.before.before.before in
     let c₀ = read w.before in
     let s = start c₀ in
-    keep_told s.args.offset s.args.bytes.now s.args.array.now _ s.requires (r c₀) (n c₀) c₀.wide-r.ensures
-    c₀.wide-n.ensures w.rewrite-length.ensures line.ensures
+    keep_told s.args.offset s.args.bytes.now s.args.array.now _ s.requires (r c₀) (n c₀) c₀.from-r.ensures
+    c₀.from-n.ensures w.rewrite-length.ensures line.ensures
 
 pub keep_spec : {M : Type 1} → statement M
 keep_spec = tie.close (tie.spec
@@ -79,7 +79,7 @@ keep_spec = tie.close (tie.spec
     omega (arith, head_long t, new_long t, sizes t, size-most (bytes t) (held (start t)).inside, (start t).requires.of.record_room))
     (λ c κs. let t = read c.before.before.before.before in (
       record {
-        columns = omega (arith, t.wide-n.ensures, (columns-most (bytes t) (held (start t)).inside).0);
+        columns = omega (arith, t.from-n.ensures, (columns-most (bytes t) (held (start t)).inside).0);
         same = new_long t ∙ sym (old_long t);
         few = omega (arith, old_long t, (sizes t).cells);
       },

@@ -1,4 +1,4 @@
--- `checks::put_refusal` is the number of the first check of putting a column that applies.
+-- `checks::put_refusal` gives the first check of putting a column that applies.
 -- Assumes nothing.
 use mathlib.Core.Path.{sym, ◌∙◌}
 use borrow.Author.Tests.{le-leb, lt-leb, eq-eqb, ne_eqb}

@@ -6,8 +6,8 @@ use borrow.Author.Rules.{rules}
 use Rattle.record.proofs.parts.size.Statement.{statement}
 use Rattle.record.proofs.parts.size.Tie as tie
 
-sizes : (c : tie.After-wide-columns) → Sizes c.args.bytes.now c.wide-rows.result c.wide-columns.result
-sizes c = sizes_of c.requires.inside c.wide-rows.ensures c.wide-columns.ensures
+sizes : (c : tie.After-from-columns) → Sizes c.args.bytes.now c.from-rows.result c.from-columns.result
+sizes c = sizes_of c.requires.inside c.from-rows.ensures c.from-columns.ensures
 
 pub size_spec : {M : Type 1} → statement M
 size_spec = tie.close (tie.spec

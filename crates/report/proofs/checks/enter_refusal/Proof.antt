@@ -1,4 +1,4 @@
--- `checks::enter_refusal` is the number of the first check of entering a mark that applies.
+-- `checks::enter_refusal` gives the first check of entering a mark that applies.
 -- Assumes nothing.
 use mathlib.Core.Path.{sym, ◌∙◌}
 use borrow.Author.Tests.{le-leb, lt-leb, eq-eqb, ne_eqb}

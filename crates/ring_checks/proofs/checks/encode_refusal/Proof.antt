@@ -1,4 +1,4 @@
--- `checks::encode_refusal` is the number of the first check of encoding that applies.
+-- `checks::encode_refusal` gives the first check of encoding that applies.
 -- Assumes nothing.
 use mathlib.Core.Path.{refl}
 use borrow.Author.Rules.{rules}

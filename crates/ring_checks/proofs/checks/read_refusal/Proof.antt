@@ -1,4 +1,4 @@
--- `checks::read_refusal` is the number of the first of the checks of reading but 9 that applies.
+-- `checks::read_refusal` gives the first of the checks of reading but 9 that applies.
 -- Assumes nothing.
 use mathlib.Core.Path.{refl}
 use borrow.Author.Rules.{rules}

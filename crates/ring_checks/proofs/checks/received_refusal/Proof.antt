@@ -1,4 +1,4 @@
--- `checks::received_refusal` is the number of the first of the checks 5 and 7 of decoding that applies.
+-- `checks::received_refusal` gives the first of the checks 5 and 7 of decoding that applies.
 -- Assumes nothing.
 use mathlib.Core.Path.{◌≡◌, refl, sym, ◌∙◌}
 use mathlib.Core.Bool.{Bool, not, ◌||◌}

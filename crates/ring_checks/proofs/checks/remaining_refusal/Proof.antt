@@ -1,4 +1,4 @@
--- `checks::remaining_refusal` is the number of the first of the checks 16, 17 and 8 that applies to the code of the arrays.
+-- `checks::remaining_refusal` gives the first of the checks 16, 17 and 8 that applies to the code of the arrays.
 -- Assumes nothing.
 use native.Mathlib.Omega.{arith}
 use Rattle.codes.proofs.Proper.{lengths_test}

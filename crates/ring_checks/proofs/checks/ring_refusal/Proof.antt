@@ -1,4 +1,4 @@
--- `checks::ring_refusal` is the number of the first of the checks 10, 11 and 18 that applies.
+-- `checks::ring_refusal` gives the first of the checks 10, 11 and 18 that applies.
 -- Assumes nothing.
 use mathlib.Core.Path.{◌≡◌, sym, ◌∙◌}
 use mathlib.Core.Bool.{false}

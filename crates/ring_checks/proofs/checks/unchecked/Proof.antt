@@ -1,6 +1,6 @@
 -- `checks::unchecked` answers its test: of the message lengths the first is judged.
 -- Assumes nothing.
-use mathlib.Core.Path.{sym}
+use mathlib.Core.Path.{sym, ◌∙◌}
 use Prim.Native.Nat.{◌<◌}
 use native.Mathlib.Omega.{arith}
 use Rattle.hermitian.proofs.Sizes.{Sides, sides, each, first_judged}
@@ -17,7 +17,7 @@ two-rows s = each (λ q. 1 < q) s.args.q s.requires.0 (omega arith) (omega arith
 
 returns : tie.Need-returns
 returns c = let s = c in
-    rw (c.side-n.ensures, c.length.ensures) (sym (first_judged s.args.q s.args.m s.requires.0 s.requires.1))
+    rw (c.side-n.ensures, c.from.ensures ∙ c.length.ensures) (sym (first_judged s.args.q s.args.m s.requires.0 s.requires.1))
 
 pub unchecked_spec : {M : Type 1} → statement M
 unchecked_spec = tie.close (tie.spec
