@@ -1,5 +1,5 @@
 // What C callers link: each call of the library firmware, exported under its own name, with its clauses. include/grenhyrna.h is for its
-// callers, and a slice is handed in as a pointer and a length.
+// callers, and a slice is handed in as a pointer and a length. That the calls are here a second time is for C, which links these.
 #![tactic(auto)]
 
 ghost use Rattle.refusal.specs.Meaning.{packed};

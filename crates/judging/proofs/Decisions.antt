@@ -1,6 +1,5 @@
 -- The decisions on the solver's lines.
 --
---   beyond_none, beyond_lead    whether the lead of another line is beyond a bound, by the number that the scan answers
 --   least_line                  the number that the scan for the least line answers is that of a line
 --   solved_rows                 what the solver is given are the rows that the model reduces
 --   decided_none, decided_several, decided_alone    what the model decides
@@ -8,8 +7,7 @@
 --   number, lead_is, lead_low, size_small, locator_is, locator_count, locator_symbols    what the code reads off the memory
 --   reads_none, reads_several, reads_alone          what it is to answer
 -- Assumes nothing.
-use mathlib.Core.Path.{◌≡◌, refl, sym, ap, ap₂, ◌∙◌, subst, subst₂}
-use mathlib.Core.Logic.{◌↔◌}
+use mathlib.Core.Path.{◌≡◌, refl, sym, ap, ap₂, ◌∙◌, subst₂}
 use mathlib.Core.List.{List, map}
 use mathlib.Core.Option.{Option, some}
 use Prim.Native.Nat.{ℕ, suc, ◌+◌, ◌-◌, ◌*◌, ◌/◌, ◌≤◌, ◌<◌}
@@ -40,13 +38,6 @@ use Rattle.ending.proofs.Model.{rows_of, lines_of, Beyond, beyond, divided, alon
 use Rattle.ending.proofs.ModelRows.{rows_symbols}
 use Rattle.conditions.specs.Working.{reduced_points, reduced_values}
 use Rattle.conditions.proofs.Reduced.{points_of, values_of, counts_of}
-
-module _ (B : ℕ) (es : List (Line ℕ)) (m r : ℕ) (scanned : get_elem? es r ≡ another m es) where
-  pub beyond_none : length es ≤ r → Beyond B (another m es)
-  beyond_none h = subst (Beyond B) (sym (line_none blank es r h) ∙ scanned) tt
-
-  pub beyond_lead : r < length es → Beyond B (another m es) ↔ (B < (get_or es r blank).lead)
-  beyond_lead h = let e = sym (line_some blank es r h) ∙ scanned in (λ b. subst (Beyond B) (sym e) b, λ b. subst (Beyond B) e b)
 
 module _ {c : Code} (p : Proper c) where
   module _ {y : List ℕ} (received : IsArray c y) where

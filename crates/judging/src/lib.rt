@@ -21,11 +21,10 @@ fn another_within(leads: &[usize; 5], lines: usize, m: usize, t: usize) -> bool
     ensures { (es : List (Line ℕ)) → length es ≡ lines → LeadsOf leads.now es
         → (result ≡ true → Beyond (t * lines) (another m es) → ⊥) × (result ≡ false → Beyond (t * lines) (another m es)) }
 {
-    let q = solver::scan::another(leads, lines, m);
-    if q == lines {
-        return false;
+    match solver::scan::another(leads, lines, m) {
+        Some(q) => leads[q] <= t * lines,
+        None => false,
     }
-    leads[q] <= t * lines
 }
 
 // Decides on the solver's lines, which the space holds behind `count` conditions.

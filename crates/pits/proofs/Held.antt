@@ -8,11 +8,12 @@
 use mathlib.Core.Path.{◌≡◌, refl, sym, ap, ap₂, ◌∙◌}
 use mathlib.Core.Bool.{false}
 use mathlib.Core.List.{List, [], ◌∷◌, ◌++◌, append-nil}
+use mathlib.Core.Option
 use mathlib.Core.Option.{Option, none, some}
 use Prim.Native.Nat.{ℕ, zero, suc, ◌+◌, ◌*◌, ◌≤◌, ◌<◌}
 use native.Mathlib.Decide.{ℕ_discrete}
 use native.Mathlib.Omega.{arith}
-use lib.ListN.{length, get_or, set, length-set, length-map, get_elem?}
+use lib.ListN.{length, get_or, set, length-set, length-map}
 use lib.Seq.{get_or-set_same, get_or-set_other}
 use Rattle.refusal.specs.Refusal.{bad_degree}
 use Rattle.field.specs.Symbols.{plus, times, over}
@@ -24,8 +25,8 @@ use Rattle.basis.proofs.Vector.{mix, shift}
 use Rattle.basis.proofs.Scan.{lowest}
 use Rattle.basis.proofs.Lines.{Separate, separate_add}
 use Rattle.basis.proofs.Basis.{Space, Form, Entry, Lawful, fix_by, fix, step_by, step, run}
-use Rattle.solver.specs.Working.Scan.{found, first_lowest}
-use Rattle.solver.proofs.Scanned.{scanned, found_some, found_none, line_some, line_none}
+use Rattle.solver.specs.Working.Scan.{first_lowest}
+use Rattle.solver.proofs.Scanned.{scanned}
 use Rattle.solver.proofs.Pivoted.{all_get}
 use Rattle.solver.proofs.Stepped.{map_get}
 use Rattle.pits.specs.Working.Table.{Symbols, SlotsIn, Laid, Least, heads, turned}
@@ -98,16 +99,16 @@ module _ (d : ℕ) (good : bad_degree d ≡ false) {s : ℕ} (few : s ≤ 8) (�
       value_at : (j : ℕ) → j < s → get_or ds j 0 ≡ C.of (entry j).vec
       value_at j lt = heads_at (length xs) i s l few j lt ∙ rw valued.wide ((h.each j lt).values i here)
 
-      pivot_line : (r : ℕ) → found s r ≡ first_lowest ds leads s
-          → get_elem? es r ≡ lowest (λ (e : Entry ℕ). e.lead) (λ (e : Entry ℕ). ℕ_discrete (C.of e.vec) 0) none es
-      pivot_line r is =
-          scanned blank (λ (e : Entry ℕ). e.lead) (λ (e : Entry ℕ). ℕ_discrete (C.of e.vec) 0) es ds leads s r h.count is
+      pivot_line : (o : Option ℕ) → o ≡ first_lowest ds leads s
+          → Option.map (λ (j : ℕ). get_or es j blank) o ≡ lowest (λ (e : Entry ℕ). e.lead) (λ (e : Entry ℕ). ℕ_discrete (C.of e.vec) 0) none es
+      pivot_line o is =
+          scanned blank (λ (e : Entry ℕ). e.lead) (λ (e : Entry ℕ). ℕ_discrete (C.of e.vec) 0) es ds leads s o h.count is
           (λ j lt. ((h.each j lt).leading, λ z. value_at j lt ∙ z, λ z. sym (value_at j lt) ∙ z))
 
       step-none : first_lowest ds leads s ≡ none → step (gf d) ℕ_discrete s C es ≡ es
       unfolding step step_by
       step-none e =
-          let None-found = sym (pivot_line s (found_none s s (omega arith) ∙ sym e)) ∙ line_none blank es s (omega (arith, h.count)) in
+          let None-found = sym (pivot_line none (sym e)) in
           rw None-found
 
       module _ (r : ℕ) (is : first_lowest ds leads s ≡ some r) where
@@ -118,7 +119,7 @@ module _ (d : ℕ) (good : bad_degree d ≡ false) {s : ℕ} (few : s ≤ 8) (�
         p = entry r
 
         pivot_found : lowest (λ (e : Entry ℕ). e.lead) (λ (e : Entry ℕ). ℕ_discrete (C.of e.vec) 0) none es ≡ some p
-        pivot_found = sym (pivot_line r (found_some s r line ∙ sym is)) ∙ line_some blank es r (omega (arith, h.count, line))
+        pivot_found = sym (pivot_line (some r) (sym is))
 
         abbrev leads₂ : List ℕ
         leads₂ = set leads r (get_or leads r 0 + s)

@@ -61,8 +61,7 @@ fn step(field: &Field, xs: &[u8], i: usize, lines: usize, leads: &mut [usize; 8]
 {
     let mut ds = [0u8; 8];
     turns::heads(slots, xs.len(), i, lines, &mut ds);
-    let p = scan::pivot(&ds, leads, lines);
-    if p < lines {
+    if let Some(p) = scan::pivot(&ds, leads, lines) {
         turn(field, xs, i, lines, &ds, p, slots);
         leads[p] += lines;
     }

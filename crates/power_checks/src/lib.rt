@@ -97,5 +97,5 @@ pub fn decode_refusal(
         space,
     )?;
     let ks = lengths(k, powers);
-    array_checks::remaining_refusal(&ks[..powers as usize], points, limit, &received[..0])
+    array_checks::remaining_refusal(&ks[..powers as usize], points, limit, &[])
 }

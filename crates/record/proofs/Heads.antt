@@ -1,40 +1,43 @@
 -- The head of a record.
 --
 --   few_bytes               fewer than two bytes are no wrong mark
---   first_byte, second_byte    where the first byte is not the mark's, and where it is
---   rows_out, rows_in_lem       the same for the count of rows
+--   two_bytes               two bytes are compared with the mark
+--   rows_out, rows_in_lem       where the count of rows is out of range, and where it is in range
 --   in-range, rows-most, columns-most    what a head in range says
 --   Sizes b r n             r rows and n columns of a head in range; sizes_of, so it is
 --   wants_mark, wants_no_more, wants_head, wants_head-alone, wants_all    how many bytes are wanted, case by case
 -- Assumes nothing.
-use mathlib.Core.Path.{◌≡◌, ap₂}
-use mathlib.Core.Bool.{true, false, not, and-true}
+use mathlib.Core.Path.{◌≡◌, sym, ◌∙◌, ap₂}
+use mathlib.Core.Bool.{true, false, not}
 use mathlib.Core.List.{List, [], ◌∷◌}
 use Prim.Native.Nat.{ℕ, ◌+◌, ◌*◌, ◌≤◌, ◌<◌}
 use native.Mathlib.Nat.{mul-le-mul}
 use native.Mathlib.Omega.{arith}
 use lib.Dec.{eqb}
-use lib.ListN.{length, get_or}
+use native.Mathlib.Decide.{ℕ_discrete}
+use Rattle.std.specs.List.{starts_with}
+use lib.ListN.{length}
 use borrow.Author.Tests.{lt-ltb, le-ltb, le-leb, lt-leb, eq-eqb, ne_eqb}
 use Rattle.refusal.specs.Refusal.{outside}
 use Rattle.refusal.proofs.Laws.{neither, within}
-use Rattle.record.specs.Records.{begins, no_mark, out_of_range, rows_in, columns_in, size_in, wanted}
+use Rattle.record.specs.Records.{mark, begins, no_mark, out_of_range, rows_in, columns_in, size_in, wanted}
 
 pub few_bytes : (b : List ℕ) → length b < 2 → no_mark b ≡ false
 unfolding no_mark
 few_bytes b h = rw (lt-leb 2 (length b) h)
 
-pub first_byte : (b : List ℕ) → 2 ≤ length b → (get_or b 0 0 ≡ 66 → ⊥) → no_mark b ≡ true
-unfolding no_mark begins
-first_byte [] h d = absurd (omega arith)
-first_byte (x ∷ []) h d = absurd (omega arith)
-first_byte (x ∷ y ∷ b) h d = simp (le-leb 2 (length (x ∷ y ∷ b)) h, ne_eqb x 66 d)
+eqb_swap : (a b : ℕ) → eqb a b ≡ eqb b a
+eqb_swap a b = go (ℕ_discrete a b)
+  where
+    go : Dec (a ≡ b) → eqb a b ≡ eqb b a
+    go (yes e) = eq-eqb a b e ∙ sym (eq-eqb b a (sym e))
+    go (no d) = ne_eqb a b d ∙ sym (ne_eqb b a (λ e. d (sym e)))
 
-pub second_byte : (b : List ℕ) → 2 ≤ length b → get_or b 0 0 ≡ 66 → no_mark b ≡ not (eqb (get_or b 1 0) 77)
+pub two_bytes : (b : List ℕ) → 2 ≤ length b → not (starts_with eqb b mark) ≡ no_mark b
 unfolding no_mark begins
-second_byte [] h e = absurd (omega arith)
-second_byte (x ∷ []) h e = absurd (omega arith)
-second_byte (x ∷ y ∷ b) h e = simp (le-leb 2 (length (x ∷ y ∷ b)) h, eq-eqb x 66 e, and-true)
+two_bytes [] h = absurd (omega arith)
+two_bytes (x ∷ []) h = absurd (omega arith)
+two_bytes (x ∷ y ∷ b) h = simp (le-leb 2 (length (x ∷ y ∷ b)) h, eqb_swap x 66, eqb_swap y 77)
 
 pub rows_out : (b : List ℕ) → outside 1 4 (rows_in b) ≡ true → out_of_range b ≡ true
 unfolding out_of_range

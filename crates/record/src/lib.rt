@@ -52,11 +52,11 @@ pub fn decode(bytes: &[u8], array: &mut [u8], flags: &mut [u8], space: &mut [u8]
     let symbols = points + n;
     let ones = [1u8; 96];
     joint::decode(
-        bytes[2] as u32,
+        u32::from(bytes[2]),
         &bytes[5..5 + r],
         &bytes[points..symbols],
         &ones[..n],
-        bytes[5 + r] as u32,
+        u32::from(bytes[5 + r]),
         &bytes[symbols..symbols + r * n],
         &mut array[..r * n],
         &mut flags[..n],

@@ -13,13 +13,7 @@ pub const MARK: [u8; 2] = *b"BM";
 pub(crate) fn no_mark(bytes: &[u8]) -> bool
     ensures { result ≡ no_mark bytes.now }
 {
-    if bytes.len() < 2 {
-        return false;
-    }
-    if bytes[0] != MARK[0] {
-        return true;
-    }
-    bytes[1] != MARK[1]
+    2 <= bytes.len() && !bytes.starts_with(&MARK)
 }
 
 // The count of rows or of columns is out of range.
@@ -27,10 +21,7 @@ pub(crate) fn out_of_range(bytes: &[u8]) -> bool
     requires { 5 ≤ length bytes.now }
     ensures { result ≡ out_of_range bytes.now }
 {
-    if refusal::outside(1, 4, usize::from(bytes[3])) {
-        return true;
-    }
-    refusal::outside(1, 96, usize::from(bytes[4]))
+    refusal::outside(1, 4, usize::from(bytes[3])) || refusal::outside(1, 96, usize::from(bytes[4]))
 }
 
 // How many bytes the record has.
@@ -53,7 +44,7 @@ pub fn stop(bytes: &[u8]) -> Result<(), Refusal>
     if bytes.len() < 5 {
         return Err(Refusal::CutShort);
     }
-    if out_of_range(bytes) & refusal::bad_degree(bytes[2] as u32) {
+    if out_of_range(bytes) & refusal::bad_degree(u32::from(bytes[2])) {
         return Err(Refusal::Degree);
     }
     if refusal::outside(1, 4, usize::from(bytes[3])) {

@@ -12,16 +12,9 @@ use refusal::Refusal;
 fn bad_mark(ending: usize, detail: usize, flags: &[u8]) -> bool
     ensures { result ≡ bad_mark (mark_of ending detail flags.now) }
 {
-    if 4 < ending {
-        return true;
-    }
-    if ending != 1 {
-        return false;
-    }
-    if refusal::some_outside(0, 2, flags) {
-        return true;
-    }
-    counts::wrong_flags(flags) != detail
+    4 < ending
+        || (ending == 1
+            && (refusal::some_outside(0, 2, flags) || counts::wrong_flags(flags) != detail))
 }
 
 // The first check of entering a mark that applies.

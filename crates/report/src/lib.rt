@@ -82,7 +82,8 @@ impl Report {
         self
     }
 
-    // Enters a mark with its ending's code and detail and its flags; refusals 24, 5, 26. A refused entry hands the report back as it
+    // Enters a mark with its ending's code and detail and its flags; the code is a number, since check 26 refuses one that no ending has.
+    // Refusals 24, 5, 26. A refused entry hands the report back as it
     // was.
     pub fn enter(self, ending: usize, detail: usize, flags: &[u8]) -> Handed<Self>
         requires { Made self }

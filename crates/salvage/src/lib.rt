@@ -29,8 +29,7 @@ fn rewrite(head: &[u8], symbols: &[u8], out: &mut [u8]) -> usize
     requires { 2 + length head.now + length symbols.now ≤ length out.old }
     ensures { Puts out.old 0 (mark ++ head.now ++ symbols.now) out.new result }
 {
-    let mark = MARK;
-    let end = put_text(out, 0, &mark);
+    let end = put_text(out, 0, &MARK);
     let end = put_text(out, end, head);
     put_text(out, end, symbols)
 }
@@ -64,9 +63,7 @@ fn decide(offset: u64, bytes: &[u8], kept: &mut [u8], line: &mut [u8], space: &m
     match ending {
         Ending::Refused(_) => Found::Skipped(1),
         Ending::Corrected(_) => keep(offset, bytes, &array, kept, line),
-        Ending::Nothing => Found::Skipped(size),
-        Ending::Several(_) => Found::Skipped(size),
-        Ending::Hollow(_) => Found::Skipped(size),
+        Ending::Nothing | Ending::Several(_) | Ending::Hollow(_) => Found::Skipped(size),
     }
 }
 

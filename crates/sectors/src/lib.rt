@@ -111,5 +111,5 @@ pub fn decode(
         q m limit received.now (Joint.buffers answer.old flags.old) space.old
         (Joint.left result (Joint.buffers answer.new flags.new) space.new) }
 {
-    decode_lost(q, m, limit, &received[..0], received, answer, flags, space)
+    decode_lost(q, m, limit, &[], received, answer, flags, space)
 }

@@ -1,7 +1,7 @@
 -- What is known at a condition before a step: the values there, and the pivot.
 --
 --   value_at       slot i of a line has its value at the condition at hand
---   pivot_line     the number that the scan finds is the number of the pivot
+--   pivot_line     the number that the scan finds is the number of the pivot; where it finds none, there is none
 --   pivot_found    the pivot is a line of the table
 --   pivot_lowest   no line with a nonzero value has a lower lead
 --   Ready, ready   the values are symbols, the pivot's is not zero, and its lead and width are small
@@ -11,13 +11,14 @@
 -- Assumes nothing.
 use mathlib.Core.Path.{◌≡◌, sym, ap, ◌∙◌}
 use mathlib.Core.List.{List, [], ◌∷◌}
-use mathlib.Core.Option.{none, some}
+use mathlib.Core.Option
+use mathlib.Core.Option.{Option, none, some}
 use mathlib.Core.Bool.{false}
 use Prim.Native.Nat.{ℕ, zero, suc, ◌+◌, ◌-◌, ◌*◌, ◌/◌, ◌^◌, ◌≤◌, ◌<◌}
 use native.Mathlib.Nat.{add-zero, zero-add, add-mul, mul-le-mul, div-lt_iff_lt-mul, lt-div-mul-add}
 use native.Mathlib.Decide.{ℕ_discrete, dec_lt}
 use native.Mathlib.Omega.{arith}
-use lib.ListN.{length, get_or, get_elem?, get_or-append, get_or-eq_default}
+use lib.ListN.{length, get_or, get_or-append, get_or-eq_default}
 use lib.Pow.{pow_pos}
 use Rattle.patch.specs.Patch.{patch}
 use Rattle.patch.proofs.Laws.{get_or-patch}
@@ -33,10 +34,10 @@ use Rattle.basis.proofs.Vector.{at_in}
 use Rattle.basis.proofs.Scan
 use Rattle.solver.specs.Working.Slots.{slots}
 use Rattle.solver.specs.Working.Held.{blank, Held, HoldsLines}
-use Rattle.solver.specs.Working.Scan.{found, first_lowest}
+use Rattle.solver.specs.Working.Scan.{first_lowest}
 use Rattle.solver.specs.Working.Turns.{Raisable}
 use Rattle.solver.proofs.Slots.{slots_length, slots_at}
-use Rattle.solver.proofs.Scanned.{scanned, line_some}
+use Rattle.solver.proofs.Scanned.{scanned}
 use Rattle.solver.proofs.Kept.{after, slot_next, symbols_next, beyond}
 
 pub all_get : {L : Type 0} (P : L → Type 0) (l : List L) (z : L) (j : ℕ) → j < length l → All P l → P (get_or l j z)
@@ -79,19 +80,19 @@ module _ (d C s i : ℕ) (next : i < C) (small : C ≤ 380) {leads space : List 
       let e : Line ℕ = get_or es j blank in
       at_in (gf d) (field d good) e.values (all_left (IsSymbol d) e.values e.locator (h.each j lt).symbols) 0
 
-  module _ (ds : List ℕ) (heads : (j : ℕ) → j < s → get_or ds j 0 ≡ get_or space (768 * j + i) 0) (r : ℕ) (is : found s r
-      ≡ first_lowest ds leads s) where
-    pub pivot_line : get_elem? es r ≡ lowest (λ (e : Line ℕ). e.lead) (λ (e : Line ℕ). ℕ_discrete (now (gf d) e) 0) none es
-    pivot_line =
-        scanned blank (λ (e : Line ℕ). e.lead) (λ (e : Line ℕ). ℕ_discrete (now (gf d) e) 0) es ds leads s r h.count is
+  module _ (ds : List ℕ) (heads : (j : ℕ) → j < s → get_or ds j 0 ≡ get_or space (768 * j + i) 0) where
+    pub pivot_line : (o : Option ℕ) → o ≡ first_lowest ds leads s
+        → Option.map (λ (j : ℕ). get_or es j blank) o ≡ lowest (λ (e : Line ℕ). e.lead) (λ (e : Line ℕ). ℕ_discrete (now (gf d) e) 0) none es
+    pivot_line o is =
+        scanned blank (λ (e : Line ℕ). e.lead) (λ (e : Line ℕ). ℕ_discrete (now (gf d) e) 0) es ds leads s o h.count is
         (λ j lt. ((h.each j lt).lead, λ z. heads j lt ∙ value_at j lt ∙ z, λ z. sym (value_at j lt) ∙ sym (heads j lt) ∙ z))
 
-    module _ (lt : r < s) where
+    module _ (r : ℕ) (is : some r ≡ first_lowest ds leads s) (lt : r < s) where
       abbrev pivot : Line ℕ
       pivot = get_or es r blank
 
       pub pivot_found : lowest (λ (e : Line ℕ). e.lead) (λ (e : Line ℕ). ℕ_discrete (now (gf d) e) 0) none es ≡ some pivot
-      pivot_found = sym pivot_line ∙ line_some blank es r (omega (arith, h.count))
+      pivot_found = sym (pivot_line (some r) is)
 
       pub pivot_lowest : (j : ℕ) → j < s → (now (gf d) (get_or es j blank) ≡ 0 → ⊥) → pivot.lead ≤ (get_or es j blank).lead
       pivot_lowest j below value =

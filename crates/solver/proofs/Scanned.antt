@@ -1,9 +1,9 @@
 -- The scan for a line by its number, and what it says of the lines themselves.
 --
---   found_some, found_none    the number of a line, and that of none
 --   passed, first, lower, kept    the four turns of a scan: the element passes; it is the first; it is lower; it is not
 --   rest, rest_all, rest_turn, rest_none    what the loop has left to scan decides: at the start, over a turn, at the end
---   numbers_all               what holds of all numbers below a bound holds of those scanned
+--   numbers_all               what holds of all numbers below a bound holds of those scanned; all_numbers, back
+--   none_marked               where the scan finds none, no line is marked
 --   line_some, line_none      the line with a number, and that with none
 --   scanned                   the scan by numbers finds what the scan over the lines finds that have these leads and marks
 -- Assumes nothing.
@@ -19,26 +19,9 @@ use native.Mathlib.Omega.{arith}
 use lib.ListN.{length, get_or, drop, get_elem?, drop_of_length-le}
 use lib.Seq.{drop-cons}
 use Rattle.poly.specs.Poly.{All}
-use Rattle.basis.proofs.Scan.{better, lowest, IfFound}
+use Rattle.basis.proofs.Scan.{better, lowest, IfFound, none_found}
 use Rattle.basis.proofs.Scan
-use Rattle.solver.specs.Working.Scan.{numbers, found_by, found, lead_of, unmarked, first_lowest}
-
-module _ (n r : ℕ) where
-  some_by : (d : Dec (r < n)) → r < n → found_by n r d ≡ some r
-  unfolding found_by
-  some_by (yes h) lt = refl
-  some_by (no h) lt = absurd (h lt)
-
-  none_by : (d : Dec (r < n)) → n ≤ r → found_by n r d ≡ none
-  unfolding found_by
-  none_by (yes h) le = absurd (omega arith)
-  none_by (no h) le = refl
-
-  pub found_some : r < n → found n r ≡ some r
-  found_some = some_by (dec_lt r n)
-
-  pub found_none : n ≤ r → found n r ≡ none
-  found_none = none_by (dec_lt r n)
+use Rattle.solver.specs.Working.Scan.{numbers, lead_of, unmarked, first_lowest}
 
 module _ {L : Type 0} (lead : L → ℕ) {P : L → Type 0} (test : (e : L) → Dec (P e)) (e : L) where
   pub passed : (o : Option L) (t : Dec (P e)) → P e → better lead test o e t ≡ o
@@ -74,23 +57,22 @@ module _ {L : Type 0} (lead : L → ℕ) {P : L → Type 0} (test : (e : L) → 
 -- ---- the loop
 
 -- what the loop has left to scan, with the best so far
-unfoldable pub rest : List ℕ → List ℕ → ℕ → ℕ → ℕ → Option ℕ
-rest ms leads n best j = lowest (lead_of leads) (unmarked ms) (found n best) (numbers j (n - j))
+unfoldable pub rest : List ℕ → List ℕ → ℕ → Option ℕ → ℕ → Option ℕ
+rest ms leads n best j = lowest (lead_of leads) (unmarked ms) best (numbers j (n - j))
 
 module _ (ms leads : List ℕ) (n : ℕ) where
-  pub rest_all : rest ms leads n n 0 ≡ first_lowest ms leads n
+  pub rest_all : rest ms leads n none 0 ≡ first_lowest ms leads n
   unfolding rest first_lowest
-  rest_all = rw (sub-zero n, found_none n n (omega arith))
+  rest_all = rw (sub-zero n)
 
-  pub rest_turn : (best best' j : ℕ) → j < n
-      → found n best' ≡ better (lead_of leads) (unmarked ms) (found n best) j (unmarked ms j)
+  pub rest_turn : (best best' : Option ℕ) (j : ℕ) → j < n → best' ≡ better (lead_of leads) (unmarked ms) best j (unmarked ms j)
       → rest ms leads n best' (j + 1) ≡ rest ms leads n best j
   unfolding rest lowest numbers
   rest_turn best best' j lt e =
       let more : n - j ≡ suc (n - suc j) = omega arith in
       rw (add-one, more, e)
 
-  pub rest_none : (best j : ℕ) → n ≤ j → rest ms leads n best j ≡ found n best
+  pub rest_none : (best : Option ℕ) (j : ℕ) → n ≤ j → rest ms leads n best j ≡ best
   unfolding rest lowest numbers
   rest_none best j le =
       let none_left : n - j ≡ 0 = omega arith in
@@ -147,6 +129,21 @@ unfolding numbers
 numbers_all P j zero h = tt
 numbers_all P j (suc n) h = (h j (omega arith), numbers_all P (suc j) n (λ k lt. h k (omega arith)))
 
+numbers_each : (P : ℕ → Type 0) (j n : ℕ) → All P (numbers j n) → (k : ℕ) → k < n → P (j + k)
+unfolding numbers
+numbers_each P j zero a k lt = absurd (omega arith)
+numbers_each P j (suc n) a zero lt = let e : j + 0 ≡ j = omega arith in rw e a.0
+numbers_each P j (suc n) a (suc k) lt =
+    let e : j + suc k ≡ suc j + k = omega arith in
+    rw e (numbers_each P (suc j) n a.1 k (omega arith))
+
+pub all_numbers : (P : ℕ → Type 0) (n : ℕ) → All P (numbers 0 n) → (k : ℕ) → k < n → P k
+all_numbers P n a k lt = let e : 0 + k ≡ k = omega arith in rw e at (numbers_each P 0 n a k lt)
+
+pub none_marked : (ms leads : List ℕ) (s : ℕ) → first_lowest ms leads s ≡ none → (j : ℕ) → j < s → get_or ms j 0 ≡ 0
+unfolding first_lowest
+none_marked ms leads s e = all_numbers _ s (none_found (lead_of leads) _ (unmarked ms) (numbers 0 s) e)
+
 module _ {L : Type 0} (z : L) where
   numbers_get : (l : List L) (j n : ℕ) → j + n ≡ length l → map (λ (k : ℕ). get_or l k z) (numbers j n) ≡ drop j l
   unfolding numbers
@@ -173,19 +170,10 @@ module _ {L : Type 0} (z : L) where
   line_none (e ∷ l) zero le = absurd (omega arith)
   line_none (e ∷ l) (suc r) le = line_none l r (omega arith)
 
-  -- the line with the number that a scan found
-  line_found : (l : List L) (r : ℕ) → get_elem? l r ≡ Option.map (λ (j : ℕ). get_or l j z) (found (length l) r)
-  line_found l r = go (dec_lt r (length l))
-    where
-      go : Dec (r < length l) → get_elem? l r ≡ Option.map (λ (j : ℕ). get_or l j z) (found (length l) r)
-      go (yes lt) = rw (found_some (length l) r lt) (line_some l r lt)
-      go (no ge) = rw (found_none (length l) r (omega arith)) (line_none l r (omega arith))
-
-  pub scanned : (lead : L → ℕ) {P : L → Type 0} (test : (e : L) → Dec (P e)) (es : List L) (ms leads : List ℕ) (n r : ℕ)
-      → length es ≡ n → found n r ≡ first_lowest ms leads n
+  pub scanned : (lead : L → ℕ) {P : L → Type 0} (test : (e : L) → Dec (P e)) (es : List L) (ms leads : List ℕ) (n : ℕ) (o : Option ℕ)
+      → length es ≡ n → o ≡ first_lowest ms leads n
       → ((j : ℕ) → j < n → Alike lead test (λ (k : ℕ). get_or es k z) (lead_of leads) (unmarked ms) j)
-      → get_elem? es r ≡ lowest lead test none es
-  scanned lead test es ms leads n r size e alike =
-      let e' : found (length es) r ≡ first_lowest ms leads (length es) = rw size e in
-      line_found es r ∙ ap (Option.map (λ (j : ℕ). get_or es j z)) e'
-      ∙ sym (scan_lines lead test es ms leads (λ j lt. alike j (omega arith)))
+      → Option.map (λ (j : ℕ). get_or es j z) o ≡ lowest lead test none es
+  scanned lead test es ms leads n o size e alike =
+      let e' : o ≡ first_lowest ms leads (length es) = rw size e in
+      ap (Option.map (λ (j : ℕ). get_or es j z)) e' ∙ sym (scan_lines lead test es ms leads (λ j lt. alike j (omega arith)))

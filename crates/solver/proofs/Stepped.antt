@@ -23,10 +23,9 @@ use Rattle.basis.proofs.Scan.{lowest}
 use Rattle.basis.proofs.Lines.{Line, later, lifted, keep, now, fix_by, fix, step_by, step, step_apart, apart_leads}
 use Rattle.solver.specs.Working.Slots.{slots}
 use Rattle.solver.specs.Working.Held.{blank, Held, HoldsLines}
-use Rattle.solver.specs.Working.Scan.{found, first_lowest}
+use Rattle.solver.specs.Working.Scan.{first_lowest}
 use Rattle.solver.specs.Working.Turns.{Turned}
 use Rattle.solver.proofs.Slots.{slots_length}
-use Rattle.solver.proofs.Scanned.{line_none}
 use Rattle.solver.proofs.Pivoted.{value_at, pivot_line, pivot_found, pivot_lowest}
 use Rattle.solver.proofs.Mixing.{mixed_pivot, mixed-zero, mixed_other}
 use Rattle.solver.proofs.Kept.{after, slot_next, beyond, held_keep, held_mix}
@@ -39,7 +38,7 @@ map_get f (e ∷ l) z (suc j) lt = map_get f l z j (omega arith)
 
 module _ (d : ℕ) (points : List ℕ) (s i : ℕ) (next : i < length points) (small : length points ≤ 380)
     {leads space : List ℕ} {es : List (Line ℕ)} (h : HoldsLines d (length points) s i leads space es)
-    (ds : List ℕ) (heads : (j : ℕ) → j < s → get_or ds j 0 ≡ get_or space (768 * j + i) 0) (r : ℕ) (is : found s r ≡ first_lowest ds leads s)
+    (ds : List ℕ) (heads : (j : ℕ) → j < s → get_or ds j 0 ≡ get_or space (768 * j + i) 0)
   where
     abbrev C : ℕ
     C = length points
@@ -50,10 +49,10 @@ module _ (d : ℕ) (points : List ℕ) (s i : ℕ) (next : i < length points) (s
     abbrev xs : List ℕ
     xs = drop (i + 1) points
 
-    pub step-none : s ≤ r → HoldsLines d C s (i + 1) leads space (step (gf d) ℕ_discrete s x xs es)
+    pub step-none : none ≡ first_lowest ds leads s → HoldsLines d C s (i + 1) leads space (step (gf d) ℕ_discrete s x xs es)
     unfolding step step_by
-    step-none le =
-        let None-found = sym (pivot_line d C s i next small h ds heads r is) ∙ line_none blank es r (omega (arith, h.count)) in
+    step-none is =
+        let None-found = sym (pivot_line d C s i next small h ds heads none is) in
         record {
           count = rw None-found (length-map es keep ∙ h.count);
           enough = h.enough;
@@ -61,7 +60,7 @@ module _ (d : ℕ) (points : List ℕ) (s i : ℕ) (next : i < length points) (s
           each = λ j lt. rw (None-found, map_get keep es blank j (omega (arith, h.count))) (held_keep d C s i next (h.each j lt));
         }
 
-    module _ (lt : r < s) (room : 768 * s ≤ length space) (good : bad_degree d ≡ false)
+    module _ (r : ℕ) (is : some r ≡ first_lowest ds leads s) (lt : r < s) (room : 768 * s ≤ length space) (good : bad_degree d ≡ false)
         (width : ℕ) (wide : get_or leads r 0 < width * s) (within : width ≤ i + 1) {space₂ : List ℕ}
         (turned : Turned d points ds s i r width space space₂)
       where

@@ -50,8 +50,7 @@ fn step(
 {
     let mut ds = [0u8; 5];
     turns::heads(space, LINE, i, lines, &mut ds);
-    let p = scan::pivot(&ds, leads, lines);
-    if p < lines {
+    if let Some(p) = scan::pivot(&ds, leads, lines) {
         let width = leads[p] / lines + 1;
         turns::turn(field, points, xs, i, lines, &ds, p, width, space, w);
         leads[p] += lines;

@@ -186,7 +186,7 @@ fn work_mark(
         factors,
         array_checks::all_ones(factors),
         limit,
-        &received[..0],
+        &[],
         received,
         array,
         flags,

@@ -18,8 +18,7 @@ shared_ref_as_front-solve c = few (goal.at.shared_ref_as_front-solve c).Start
 taken : (c : After-least) → Least c.solve.new.leads (2 * c.args.field.now.degree) c.least.result
 taken c =
     let n = sides c.args.field.now.degree c.args.field.now.degree c.requires.size refl in
-    least_found (replicate 8 1) _ _ _ (omega (arith, n.some)) (λ j lt. all_marked 8 j (omega (arith, n.side)))
-    c.least.ensures.0 c.least.ensures.1
+    least_found (replicate 8 1) _ _ _ (λ j lt. all_marked 8 j (omega (arith, n.side))) (c.least.ensures.1 (omega (arith, n.some)))
 
 room : (c : After-least) → 2 * length c.args.ring.now * c.least.result + length c.args.ring.now + length c.args.ring.now ≤ 1024
 room c = weights_room c.args.field.now.degree c.args.m c.args.ring.now c.requires.size c.requires.ring c.least.result (taken c).below

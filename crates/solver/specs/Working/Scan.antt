@@ -1,26 +1,24 @@
 -- The scan for a line, by its number.
 --
 --   numbers j n             n numbers from j on
---   found n r               the number r, if it is below n
+--   found o                 what o holds, as an option of the model
 --   lead_of leads j          the lead of line j
 --   unmarked ms j           whether the mark of line j is zero
 --   Marks lead m r          r marks a lead that is not m
 --   first_lowest ms leads n  of n lines, the number of the first of lowest lead among those that are marked
-use Rattle.std.specs.Prelude.{◌≡◌, List, [], ◌∷◌, ℕ, zero, suc, ◌<◌, get_or}
+use Rattle.std.specs.Prelude
+use Rattle.std.specs.Prelude.{◌≡◌, List, [], ◌∷◌, ℕ, zero, suc, get_or, Some, None}
 use Rattle.std.proofs.Math.Option.{Option, none, some}
-use Rattle.std.proofs.Math.Decide.{ℕ_discrete, dec_lt}
+use Rattle.std.proofs.Math.Decide.{ℕ_discrete}
 use Rattle.basis.proofs.Scan.{lowest}
 
 unfoldable pub numbers : ℕ → ℕ → List ℕ
 numbers j zero = []
 numbers j (suc n) = j ∷ numbers (suc j) n
 
-unfoldable pub found_by : (n r : ℕ) → Dec (r < n) → Option ℕ
-found_by n r (yes h) = some r
-found_by n r (no h) = none
-
-abbrev pub found : ℕ → ℕ → Option ℕ
-found n r = found_by n r (dec_lt r n)
+abbrev pub found : Prelude.Option ℕ → Option ℕ
+found None = none
+found (Some r) = some r
 
 abbrev pub lead_of : List ℕ → ℕ → ℕ
 lead_of leads j = get_or leads j 0

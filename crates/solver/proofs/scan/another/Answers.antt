@@ -4,7 +4,7 @@ use native.Mathlib.Decide.{ℕ_discrete}
 use denote.Param.Members.{Mut, Called}
 use Rattle.std.specs.Array.{MapsFrom}
 use Rattle.solver.specs.Working.Scan.{Marks}
-use Rattle.solver.proofs.Lowest.{another_scan}
+use Rattle.solver.proofs.Lowest.{another_line}
 use Rattle.solver.proofs.scan.another.Goals as goal
 
 -- what each call of an unchanging closure gives holds of each element that `map` gave
@@ -25,7 +25,7 @@ returns c =
     let m = c.args.m in
     let marked = mapped _ _ (λ (lead mark : ℕ). Marks lead m mark) (λ x y q called. search (rules, tests)) 0 0
     c.args.leads.now c.map.result 0 5 _ refl c.map.ensures.items.each in (
-      c.pivot.ensures.0,
-      λ es size led. another_scan _ _ _ _ c.pivot.ensures.1 es size led m
+      c.pivot.ensures.1,
+      λ es size led. another_line _ _ _ es size led _ c.pivot.ensures.0 c.pivot.ensures.1 m
           (λ j lt. marked j (omega arith) (omega (arith, c.requires))),
     )
