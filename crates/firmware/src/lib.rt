@@ -1,5 +1,6 @@
 // The calls on marks, trays and rings, with their answers as one number. firmware_c exports them to C callers, for whom
-// include/grenhyrna.h is.
+// include/grenhyrna.h is. Degree and q are numbers here and below, as C hands them in: checks 1 and 10 answer to each that no field or ring
+// has.
 #![tactic(auto)]
 
 ghost use Rattle.std.specs.Prelude.{◌≡◌, ℕ, Ok, ◌≤◌};

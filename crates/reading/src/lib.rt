@@ -27,6 +27,7 @@ pub fn read_full<R: Read>(input: &mut R, buf: &mut [u8]) -> io::Result<usize>
         match input.read(&mut buf[done..]) {
             Ok(0) => return Ok(done),
             Ok(n) => done += n,
+            // Nothing is to be done before it is made again: the arm is empty, and an `if` in the next one would be no plainer.
             Err(e) if e.kind() == ErrorKind::Interrupted => {}
             Err(e) => return Err(e),
         }
