@@ -107,6 +107,7 @@ fn bad_factors(degree: u32, factors: &[u8], ones: bool) -> bool
 }
 
 // The first of the checks 6 and 23 that applies.
+#[tactic(auto, unfolding(refusal::specs::Refusal::first))]
 fn known_refusal(degree: u32, points: &[u8], factors: &[u8], ones: bool) -> Result<(), Refusal>
     requires degree_value { bad_degree degree ≡ false }
     requires all { ones ≡ true → All (λ (f : ℕ). f ≡ 1) factors.now }
@@ -132,6 +133,7 @@ pub fn columns_refusal(degree: u32, points: &[u8], factors: &[u8]) -> Result<(),
 }
 
 // For the crates above: check 7, if it applies.
+#[tactic(auto, unfolding(refusal::specs::Refusal::first))]
 pub fn symbols_refusal(degree: u32, symbols: &[u8]) -> Result<(), Refusal>
     ensures { refused result ≡ first ((7 when some_outside_field degree symbols.now) ∷ []) }
 {

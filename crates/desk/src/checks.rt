@@ -26,6 +26,7 @@ pub fn open_refusal(
 }
 
 // The first check of putting a column that applies.
+#[tactic(auto, unfolding(refusal::specs::Refusal::first))]
 pub fn put_refusal(desk: Desk, column: usize, symbols: &[u8]) -> Result<(), Refusal>
     ensures { refused result ≡ first (put_checks desk column symbols.now) }
 {

@@ -38,6 +38,7 @@ pub struct Judged {
 
 impl Desk {
     // The desk of a code and its factors with an array of zeros.
+    #[tactic(auto, unfolding(crate::specs::Desk::zeros))]
     fn zero(degree: u32, points: &[u8], factors: &[u8], lengths: &[u8]) -> Self
         requires points_len_bound { length points.now ≤ 16 }
         requires factors_len_bound { length factors.now ≤ 16 }

@@ -88,6 +88,7 @@ pub fn run(
 }
 
 // The x of the i-th point of a ring; a division by a constant is quicker than one by q.
+#[tactic(auto, unfolding(hermitian::specs::Checks::bad_size))]
 fn abscissa(q: u32, i: usize) -> u8
     requires { (bad_size q ≡ false) × (i < 64) }
     ensures { result ≡ i / q }
@@ -167,6 +168,7 @@ fn start_lines(field: &Field, ys: &[u8], ring: &[u8], slots: &mut [u8])
 }
 
 // The leads of the lines at the start.
+#[tactic(auto, unfolding(hermitian::specs::Checks::bad_size), using(hermitian::proofs::Sizes::orders, crate::proofs::Begun::leads_made))]
 fn start_leads(q: u32, m: u32, leads: &mut [usize; 8])
     requires { (bad_size q ≡ false) × (bad_order q m ≡ false) }
     ensures { leads.new ≡ leads_laid q m leads.old }

@@ -18,6 +18,7 @@ fn bad_mark(ending: usize, detail: usize, flags: &[u8]) -> bool
 }
 
 // The first check of entering a mark that applies.
+#[tactic(auto, unfolding(refusal::specs::Refusal::first))]
 pub fn enter_refusal(
     report: Report,
     ending: usize,

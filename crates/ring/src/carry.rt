@@ -10,6 +10,7 @@ use field::Field;
 use ring_checks::shape;
 
 // The sum of the symbols of sector x.
+#[tactic(auto, unfolding(hermitian::specs::Checks::bad_size, field::specs::Symbols::plus, hermitian::proofs::Kernel::sum_to))]
 fn sector_sum(q: u32, v: &[u8], x: usize) -> u8
     requires { SectorGiven q v.now x }
     ensures { result ≡ sector_sum q v.now x }
@@ -49,6 +50,7 @@ fn carry_sums(field: &Field, ys: &[u8], ring: &[u8], v: &mut [u8], array: &mut [
 }
 
 // The sector of a place; a division by a constant is quicker than one by q.
+#[tactic(auto, unfolding(hermitian::specs::Checks::bad_size))]
 fn sector_of(q: u32, i: usize) -> usize
     requires { bad_size q ≡ false }
     ensures { result ≡ i / q }

@@ -21,6 +21,7 @@ fn bad_size(q: u32) -> bool
 }
 
 // Number 11 applies, m is not q² − 1 to q³ − 1.
+#[tactic(auto, unfolding(hermitian::specs::Checks::bad_size, hermitian::specs::Checks::bad_order))]
 fn bad_order(q: u32, m: u32) -> bool
     requires { bad_size q ≡ false }
     ensures { result ≡ bad_order q m }
@@ -30,6 +31,7 @@ fn bad_order(q: u32, m: u32) -> bool
 }
 
 // Number 18 applies, some message length of H(m) is the number of columns: the first, which is the longest.
+#[tactic(auto, unfolding(hermitian::specs::Checks::bad_size), using(hermitian::proofs::Sizes::first_judged))]
 fn unchecked(q: u32, m: u32) -> bool
     requires q_value { bad_size q ≡ false }
     requires m_value { bad_order q m ≡ false }
@@ -40,6 +42,7 @@ fn unchecked(q: u32, m: u32) -> bool
 }
 
 // The first of the checks 10, 11 and 18 that applies.
+#[tactic(auto, unfolding(refusal::specs::Refusal::first))]
 pub fn ring_refusal(q: u32, m: u32) -> Result<(), Refusal>
     ensures { refused result ≡ first (ring_checks q m) }
 {
@@ -56,6 +59,7 @@ pub fn ring_refusal(q: u32, m: u32) -> Result<(), Refusal>
 }
 
 // The sum of the message lengths of H(m).
+#[tactic(auto, unfolding(hermitian::specs::Checks::bad_size))]
 pub fn total(q: u32, m: u32) -> usize
     requires { Passed q m }
     ensures { result ≡ total (ring_lengths q m) }
@@ -65,6 +69,7 @@ pub fn total(q: u32, m: u32) -> usize
 }
 
 // The first of the checks 16, 17 and 8 that applies to lost sectors of H(m).
+#[tactic(auto, unfolding(hermitian::specs::Checks::bad_size))]
 fn remaining_refusal(q: u32, m: u32, limit: u32, lost: &[u8]) -> Result<(), Refusal>
     requires { Passed q m }
     ensures { refused result ≡ first (remaining_checks (ring_code q m) limit lost.now) }
@@ -114,6 +119,7 @@ pub fn read_refusal(q: u32, m: u32, word: &[u8], room: usize) -> Result<(), Refu
 
 // The first of the checks 5 and 7 of decoding that applies, where there are to be so many flags. Of the buffers for the answer, the
 // flags and the working space the checks read the lengths alone.
+#[tactic(auto, unfolding(refusal::specs::Refusal::first, hermitian::specs::Checks::bad_size))]
 pub fn received_refusal(
     q: u32,
     count: usize,

@@ -25,6 +25,7 @@ pub fn side(q: u32) -> usize
 }
 
 // The points of the array's columns, of which q² count.
+#[tactic(auto, unfolding(hermitian::specs::Checks::bad_size, hermitian::specs::Ring::numbers))]
 pub fn columns(q: u32) -> [u8; 16]
     requires { bad_size q ≡ false }
     ensures { take (q * q) result ≡ numbers (q * q) }
@@ -47,6 +48,7 @@ pub fn ordinates(q: u32) -> [u8; 64]
 }
 
 // The message length of row j.
+#[tactic(auto, unfolding(hermitian::specs::Checks::bad_size, hermitian::specs::Ring::ring_length), using(hermitian::proofs::Sizes::orders))]
 pub fn length(q: u32, m: u32, j: usize) -> u8
     requires { Row q m j }
     ensures { result ≡ ring_length q m j }

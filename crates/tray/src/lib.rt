@@ -221,6 +221,7 @@ fn end_mark(
 }
 
 // Clears the working space, behind the last mark.
+#[tactic(auto, using(joint::proofs::Cleared::cleared_by))]
 fn clear_behind(last: bool, space: &mut [u8])
     requires { space_bytes ≤ length space.old }
     ensures { space.new ≡ cleared_if last space.old }

@@ -1,5 +1,5 @@
 -- `buffers_refusal` gives the first of the checks 1 to 7 that applies to a message and an array.
-use Rattle.std.proofs.Common.{◌≡◌, ℕ, ◌+◌, ◌*◌, Bool, not, ◌||◌, List, ◌++◌, length, refl, sym, ap, ◌∙◌, nat_eq}
+use Rattle.std.proofs.Common.{◌≡◌, ℕ, ◌*◌, Bool, not, ◌||◌, List, ◌++◌, length, refl, sym, ap, ◌∙◌, nat_eq}
 use mathlib.Core.Path.{ap₂}
 use Rattle.std.proofs.lemmas.Result.{err_from_is_err_and}
 use Rattle.refusal.specs.Refusal.{first}

@@ -1,5 +1,5 @@
 -- `limit_from` is the joint limit: the lengths are up to n, so that neither difference wraps.
-use Rattle.std.proofs.Common.{◌≡◌, ℕ, ◌+◌, ◌-◌, ◌*◌, ◌/◌, min, length, ◌∙◌, arith}
+use Rattle.std.proofs.Common.{◌≡◌, ℕ, ◌+◌, ◌-◌, ◌*◌, ◌/◌, min, ◌∙◌, arith}
 use native.Mathlib.Numerals.{add-one}
 use Rattle.codes.specs.Code.{Code, code_of, columns, rows, total, largest, joint_limit}
 use Rattle.codes.proofs.Passed.{total-most, largest-most}
