@@ -16,7 +16,8 @@ module _ (c : In-Some) where
   turn : (i < length c.args.flags.now) × (get_or c.args.flags.now i 0 ≡ c.in-Some.flag.now)
       × (c.in-Some.entry.now ≡ get_or c.args.row.now i 0)
   turn =
-      let t = zip_turn c.args.flags.now c.args.row.now c.loop-flag.yielded c.into_iter-flag-iterator.result c.loop-flag.flag-iterator c.next.new.self _ (cc) (cc) c.loop-flag.yielded_by _ c.in-Some.is
+      let t = zip_turn c.args.flags.now c.args.row.now c.loop-flag.yielded
+      c.into_iter-flag-iterator.result c.loop-flag.flag-iterator c.next.new.self _ (cc) (cc) c.loop-flag.yielded_by _ c.in-Some.is
       c.next.ensures.steps in
       (t.0, sym (t.2 0), t.3 0)
 
@@ -44,6 +45,7 @@ loop-flag-preserved c =
 pub returns : goal.returns
 returns c =
     let l = c.loop-flag in
-    let all = zip_end c.args.flags.now c.args.row.now l.yielded c.into_iter-flag-iterator.result c.loop-flag.flag-iterator c.next.new.self _ (cc) (cc) l.yielded_by c.in-None.is c.next.ensures.steps in
+    let all = zip_end c.args.flags.now c.args.row.now l.yielded
+    c.into_iter-flag-iterator.result c.loop-flag.flag-iterator c.next.new.self _ (cc) (cc) l.yielded_by c.in-None.is c.next.ensures.steps in
     let none = right_none c.args.flags.now c.args.row.now (length l.yielded) (omega arith) in
     (omega (arith, ap length none, l.invariant.1), sym (lay_none l.j l.s) ∙ rw none at l.invariant.2)

@@ -47,7 +47,14 @@ module _ (c : In-loop-size) where
     next = omega arith;
     rest = refl;
     room = omega (arith, (no_columns 16).many, c.loop-size-test.true, c.requires.limit);
-    before = omega (arith, few c.loop-size.size (columns D.code) c.requires.few, c.loop-size-test.true, c.requires.limit, c.requires.few, c.loop-size.invariant.0);
+    before = omega (
+      arith,
+      few c.loop-size.size (columns D.code) c.requires.few,
+      c.loop-size-test.true,
+      c.requires.limit,
+      c.requires.few,
+      c.loop-size.invariant.0,
+    );
   })
 
 -- the sets of one size more are tried

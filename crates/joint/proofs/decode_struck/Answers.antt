@@ -42,7 +42,8 @@ returns-then-is_empty c =
     let t = (goal.at.returns-then-is_empty c).Then-ones in
     let b = buffers c.work_whole.new.answer c.work_whole.new.flags in
     one_struck t c.work_whole.result b
-    (whole_ends c.requires.ready_lost.0 (empty c.args.lost.now (eqb-true _ 0 (sym c.is_empty.ensures ∙ c.if-is_empty.true))) (lent t) b c.work_whole.result c.work_whole.ensures)
+    (whole_ends c.requires.ready_lost.0 (empty c.args.lost.now (eqb-true _ 0 (sym c.is_empty.ensures ∙ c.if-is_empty.true)))
+    (lent t) b c.work_whole.result c.work_whole.ensures)
 
 pub returns-then-ones : goal.returns-then-ones
 returns-then-ones c =

@@ -21,8 +21,8 @@ work_whole-requires-clause-ready c = whole_of c.requires.ready_lost.0 (empty c.a
 
 pub returns-then-is_empty : goal.returns-then-is_empty
 returns-then-is_empty c =
-    whole_ends c.requires.ready_lost.0 (empty c.args.lost.now (eqb-true _ 0 (sym c.is_empty.ensures ∙ c.if-is_empty.true))) (buffers c.args.answer.now c.args.flags.now)
-    (buffers c.work_whole.new.answer c.work_whole.new.flags) c.work_whole.result c.work_whole.ensures
+    whole_ends c.requires.ready_lost.0 (empty c.args.lost.now (eqb-true _ 0 (sym c.is_empty.ensures ∙ c.if-is_empty.true)))
+    (buffers c.args.answer.now c.args.flags.now) (buffers c.work_whole.new.answer c.work_whole.new.flags) c.work_whole.result c.work_whole.ensures
 
 -- columns are lost, and the remaining ones are corrected
 module _ (c : In-Corrected) where

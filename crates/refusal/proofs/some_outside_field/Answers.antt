@@ -1,5 +1,6 @@
 -- `some_outside_field` answers its test: the bits of the symbols passed and the rest of the list decide.
-use Rattle.std.proofs.Common.{◌≡◌, ℕ, suc, ◌+◌, ◌^◌, ◌≤◌, ◌<◌, false, List, [], ◌∷◌, length, get_or, drop, leb, arith, add-one, drop-cons, bit_or, refl, sym, ◌∙◌}
+use Rattle.std.proofs.Common.{◌≡◌, ℕ, suc, ◌+◌, ◌^◌, ◌≤◌, ◌<◌, false, refl, sym, ◌∙◌, leb, arith, add-one, bit_or}
+use Rattle.std.proofs.Common.{List, [], ◌∷◌, length, get_or, drop, drop-cons}
 use mathlib.Core.Bool.{◌||◌, or-true, or-false, or_assoc}
 use native.Mathlib.Nat.{lt_of_lt_of_le}
 use native.Mathlib.Decide.{dec_le}

@@ -14,8 +14,11 @@ multiply-requires-clause-symbols_at c =
 
 pub loop-j-preserved : goal.loop-j-preserved
 loop-j-preserved c =
-    let turn = c.loop-j in
-    (omega arith, values_step c.args.field.now.degree_value c.requires.evaluating c.clear.ensures turn.j (omega arith) (omega arith) turn.invariant.1 c.multiply.ensures)
+    let turn = c.loop-j in (
+      omega arith,
+      values_step c.args.field.now.degree_value c.requires.evaluating c.clear.ensures turn.j
+          (omega arith) (omega arith) turn.invariant.1 c.multiply.ensures,
+    )
 
 pub returns : goal.returns
 returns c =
