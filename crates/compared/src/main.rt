@@ -92,6 +92,15 @@ fn called(frame: &Frame, res: &mut [u8], flags: &mut [u8], space: &mut [u8]) -> 
     }
 }
 
+// How many bytes are zero. A loop, which vectorises, where `filter` and `count` do not.
+fn zeros(s: &[u8]) -> usize {
+    let mut n = 0;
+    for x in s {
+        n += usize::from(*x == 0);
+    }
+    n
+}
+
 // Makes the call of a frame with fresh buffers, and shows what it leaves.
 fn run(out: &mut impl Write, frame: &Frame) -> io::Result<()> {
     let mut result = [7u8; 385];
@@ -101,8 +110,8 @@ fn run(out: &mut impl Write, frame: &Frame) -> io::Result<()> {
     let flags = &mut flags[..usize::from(frame[12].min(97))];
     let space = &mut space[..49144 + usize::from(frame[13])];
     let answer = called(frame, result, flags, space);
-    let zeros = space.iter().filter(|x| **x == 0).count();
-    writeln!(out, "{answer} {} {} {zeros}", Hex(result), Hex(flags))
+    let cleared = zeros(space);
+    writeln!(out, "{answer} {} {} {cleared}", Hex(result), Hex(flags))
 }
 
 fn main(rt: HostRuntime) -> io::Result<()> {

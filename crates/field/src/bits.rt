@@ -51,8 +51,8 @@ pub struct Reducer {
 }
 
 impl Reducer {
-    // The reducer of a degree.
-    pub(crate) fn new(degree: u32) -> Self
+    // For the crates above: the reducer of a degree.
+    pub fn new(degree: u32) -> Self
         requires { bad_degree degree ≡ false }
         ensures { result.degree ≡ degree }
     {

@@ -94,7 +94,14 @@ fn fill_row(
     let mut vs = [0u8; 96];
     gather(flags, row, &mut us);
     rows::lent::reduce(field, nodes, nodes.len() - 1, ws, &mut us);
-    rows::evaluate(field, wrong, nodes, &us[..nodes.len()], &mut vs, 0);
+    rows::evaluate(
+        field.reducer(),
+        wrong,
+        nodes,
+        &us[..nodes.len()],
+        &mut vs,
+        0,
+    );
     merge(marks, &vs[..wrong.len()], row, s, at);
 }
 
@@ -224,7 +231,7 @@ pub fn divide(
         ) }
 {
     let mut marks = [0u8; 96];
-    rows::values(field, points, locator, &mut marks, 0);
+    rows::values(field.reducer(), points, locator, &mut marks, 0);
     let count = flag_zeros(&marks[..points.len()], flags);
     let t = locator.len() - 1;
     if count != t {

@@ -94,7 +94,7 @@ module _ (g : Given) (l : Left) (h : Decodes g l) where
   in_table = omega (arith, number_upto)
 
   pub refused_exactly : IsRefused ↔ ¬ (first (checks_of g) ≡ 0)
-  refused_exactly = halves.refused_exactly (checks_of g) g.lent g.space EndsAs in_table never l h
+  refused_exactly = halves.refused_exactly (checks_of g) g.lent g.space EndsAs never l h
 
   pub refused_leaves : (r : Refusal) → l.ending ≡ Refused r
       → (number r ≡ first (checks_of g)) × (1 ≤ number r) × (number r ≤ 23) × (l.buffers ≡ g.lent) × (l.space ≡ g.space)
@@ -110,14 +110,14 @@ module _ (g : Given) (l : Left) (h : Decodes g l) where
   others (Hollow t) b d n = d.2
 
   pub as_lent : ¬ IsCorrected → l.buffers ≡ g.lent
-  as_lent = halves.as_lent (checks_of g) g.lent g.space EndsAs in_table never l h (struck_others D y Table g.lent others)
+  as_lent = halves.as_lent (checks_of g) g.lent g.space EndsAs never l h (struck_others D y Table g.lent others)
 
   pub space_cleared : ¬ IsRefused
       → ((i : ℕ) → i < space_bytes → get_or l.space i 0 ≡ 0) × ((i : ℕ) → space_bytes ≤ i → get_or l.space i 0 ≡ get_or g.space i 0)
-  space_cleared = halves.space_cleared (checks_of g) g.lent g.space EndsAs in_table never l h
+  space_cleared = halves.space_cleared (checks_of g) g.lent g.space EndsAs never l h
 
   ended_as : (e : Ending) → l.ending ≡ e → ((r : Refusal) → ¬ (e ≡ Refused r)) → (0 ≡ first (checks_of g)) × EndsAs e l.buffers
-  ended_as = halves.ended_as (checks_of g) g.lent g.space EndsAs in_table never l h
+  ended_as = halves.ended_as (checks_of g) g.lent g.space EndsAs never l h
 
   -- a struck array is as far from the received one as its quotient is from the quotient
   same_count : (q : Passed) (a : List ℕ) → IsArray c a → wrong_count c y (multiplied D a) ≡ wrong_count c (divided D y) a

@@ -235,22 +235,22 @@ module _ (g : Given) where
 
 module _ (L : List ℕ) (g : Given) (l : Left) (h : DecodesLost L g l) where
   pub refused_exactly : IsRefused l ↔ ¬ (first (checks_lost L g) ≡ 0)
-  refused_exactly = halves.refused_exactly (checks_lost L g) g.lent g.space (EndsAs L g) (in_table L g) (never L g) l h
+  refused_exactly = halves.refused_exactly (checks_lost L g) g.lent g.space (EndsAs L g) (never L g) l h
 
   pub refused_leaves : (r : Refusal) → l.ending ≡ Refused r
       → (number r ≡ first (checks_lost L g)) × (1 ≤ number r) × (l.buffers ≡ g.lent) × (l.space ≡ g.space)
   refused_leaves = halves.refused_leaves (checks_lost L g) g.lent g.space (EndsAs L g) (in_table L g) (never L g) l h
 
   pub as_lent : ¬ IsCorrected l → l.buffers ≡ g.lent
-  as_lent = halves.as_lent (checks_lost L g) g.lent g.space (EndsAs L g) (in_table L g) (never L g) l h
+  as_lent = halves.as_lent (checks_lost L g) g.lent g.space (EndsAs L g) (never L g) l h
       (struck_others (D L g) (y L g) (Table L g) g.lent (others_table L g))
 
   pub space_cleared : ¬ IsRefused l
       → ((i : ℕ) → i < space_bytes → get_or l.space i 0 ≡ 0) × ((i : ℕ) → space_bytes ≤ i → get_or l.space i 0 ≡ get_or g.space i 0)
-  space_cleared = halves.space_cleared (checks_lost L g) g.lent g.space (EndsAs L g) (in_table L g) (never L g) l h
+  space_cleared = halves.space_cleared (checks_lost L g) g.lent g.space (EndsAs L g) (never L g) l h
 
   ended_as : (e : Ending) → l.ending ≡ e → ((r : Refusal) → ¬ (e ≡ Refused r)) → (0 ≡ first (checks_lost L g)) × EndsAs L g e l.buffers
-  ended_as = halves.ended_as (checks_lost L g) g.lent g.space (EndsAs L g) (in_table L g) (never L g) l h
+  ended_as = halves.ended_as (checks_lost L g) g.lent g.space (EndsAs L g) (never L g) l h
 
   corrected : (w : ℕ) → l.ending ≡ Corrected w → (0 ≡ first (checks_lost L g)) × EndsAs L g (Corrected w) l.buffers
   corrected w e = ended_as (Corrected w) e (λ k e. let z : ◌≡◌ {A = ℕ} 0 1 = cc in omega arith)

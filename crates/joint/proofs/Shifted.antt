@@ -226,8 +226,7 @@ module _ (L : List ℕ) (D : Description) (lent : Buffers) (space : List ℕ) wh
       → τ ≤ joint_limit (core c L)
   within_joint τ y l h not =
       let never = struck_never D y (λ v. LostEnds c L v τ lent) (λ k b d. d) in
-      let none = (halves.ended_as (checks τ y) lent space (EndsAs τ y) (lost.in_table L (given D τ y lent space))
-      never l h l.ending refl (λ k e. not (k, e))).0 in
+      let none = (halves.ended_as (checks τ y) lent space (EndsAs τ y) never l h l.ending refl (λ k e. not (k, e))).0 in
       (lost_passed D τ L y lent.array lent.flags space none).0.remain.limit
 
 -- nothing is lost

@@ -111,8 +111,9 @@ pub fn scale(field: &Field, c: u8, s: &mut [u8], at: usize, n: usize)
     combine_all(field.degree, &r, s, at, n);
 }
 
-// Multiplies the part of s at `at`, each symbol with b added, by the symbols of w with a added.
-fn multiply_by_bits(reducer: Reducer, w: &[u8], a: u8, s: &mut [u8], at: usize, b: u8)
+// For the crates above: multiplies the part of s at `at`, each symbol with b added, by the symbols of w with a added; quickest for
+// lists of whole sixteens. It needs no inverse.
+pub fn multiply_by_bits(reducer: Reducer, w: &[u8], a: u8, s: &mut [u8], at: usize, b: u8)
     requires { Multiplying reducer.degree w.now a s.old at b }
     ensures { s.new ≡ multiplied_at reducer.degree w.now a s.old at b }
 {
@@ -121,8 +122,7 @@ fn multiply_by_bits(reducer: Reducer, w: &[u8], a: u8, s: &mut [u8], at: usize, 
     }
 }
 
-// For the crates above: multiplies the part of s at `at`, each symbol with b added, by the symbols of w with a added; quickest for
-// lists of whole sixteens.
+// For the crates above: the same, in a field.
 pub fn multiply(field: &Field, w: &[u8], a: u8, s: &mut [u8], at: usize, b: u8)
     requires a_bound { (a < 2 ^ field.now.degree) × (b < 2 ^ field.now.degree) }
     requires w_in_bounds { at + length w.now ≤ length s.old }

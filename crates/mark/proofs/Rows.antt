@@ -46,7 +46,7 @@ pub record Before (c : Code) (l p q : ℕ) : Type 0 where
   pub message : p + total (drop l c.lengths) ≡ total c.lengths
   pub array : q + length (drop l c.lengths) * columns c ≡ rows c * columns c
 
-first_place : (c : Code) → Before c 0 0 0
+pub first_place : (c : Code) → Before c 0 0 0
 first_place c = record { within = omega arith; message = omega arith; array = omega arith }
 
 pub record Place (c : Code) (l p q k : ℕ) : Type 0 where

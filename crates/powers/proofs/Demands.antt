@@ -128,7 +128,7 @@ module _ (d k s : ℕ) (xs fs : List ℕ) (τ : ℕ) (y : List ℕ) (lent : Buff
   in_table = omega (arith, number_upto)
 
   pub refused_exactly : IsRefused ↔ ¬ (first checks ≡ 0)
-  refused_exactly = halves.refused_exactly checks lent space Ended in_table never l h
+  refused_exactly = halves.refused_exactly checks lent space Ended never l h
 
   pub refused_leaves : (r : Refusal) → l.ending ≡ Refused r
       → (number r ≡ first checks) × (1 ≤ number r) × (number r ≤ 23) × (l.buffers ≡ lent) × (l.space ≡ space)
@@ -137,15 +137,15 @@ module _ (d k s : ℕ) (xs fs : List ℕ) (τ : ℕ) (y : List ℕ) (lent : Buff
       (first, some, omega (arith, number_upto), b, s)
 
   pub as_lent : ¬ IsCorrected → l.buffers ≡ lent
-  as_lent = halves.as_lent checks lent space Ended in_table never l h
+  as_lent = halves.as_lent checks lent space Ended never l h
       (struck_others D y Table lent (power_others lent))
 
   pub space_cleared : ¬ IsRefused
       → ((i : ℕ) → i < space_bytes → get_or l.space i 0 ≡ 0) × ((i : ℕ) → space_bytes ≤ i → get_or l.space i 0 ≡ get_or space i 0)
-  space_cleared = halves.space_cleared checks lent space Ended in_table never l h
+  space_cleared = halves.space_cleared checks lent space Ended never l h
 
   ended_as : (e : Ending) → l.ending ≡ e → ((r : Refusal) → ¬ (e ≡ Refused r)) → (0 ≡ first checks) × Ended e l.buffers
-  ended_as = halves.ended_as checks lent space Ended in_table never l h
+  ended_as = halves.ended_as checks lent space Ended never l h
 
   corrected_as : (w : ℕ) → l.ending ≡ Corrected w → (0 ≡ first checks) × Ended (Corrected w) l.buffers
   corrected_as w e = ended_as (Corrected w) e (λ r e. let z : ◌≡◌ {A = ℕ} 0 1 = cc in omega arith)

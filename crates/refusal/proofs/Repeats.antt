@@ -4,14 +4,17 @@
 --   stands_not    what differs from every entry is not
 --   repeats       a list with two equal entries has a repeat
 --   repeats_not   a list whose entries differ from all the earlier ones has none
---   Fresh l i j   entry i is none of the first j
+--   Fresh l i j   entry i is none of the first j; Looked l i j same, whether it is one of them
+--   looked_none   before the first is looked at; looked_more, one more; looked_stood, where it is one of them there is a repeat
 -- Assumes nothing.
 use mathlib.Core.Path.{◌≡◌, refl}
-use mathlib.Core.Bool.{true, false, or-true}
+use mathlib.Core.Bool.{Bool, true, false, ◌||◌, or-true}
 use mathlib.Core.List.{List, [], ◌∷◌}
-use Prim.Native.Nat.{ℕ, zero, suc, ◌<◌}
+use Prim.Native.Nat.{ℕ, zero, suc, ◌+◌, ◌≤◌, ◌<◌}
+use native.Mathlib.Decide.{ℕ_discrete, dec_lt}
 use native.Mathlib.Omega.{arith}
 use lib.ListN.{length, get_or}
+use lib.Dec.{eqb}
 use borrow.Author.Tests.{eq-eqb, ne_eqb}
 use Rattle.refusal.specs.Refusal.{is_in, repeated}
 
@@ -44,3 +47,26 @@ repeats_not (a ∷ l) h =
 
 abbrev pub Fresh : List ℕ → ℕ → ℕ → Type 0
 Fresh l i j = (k : ℕ) → k < j → get_or l k 0 ≡ get_or l i 0 → ⊥
+
+pub data Looked (l : List ℕ) (i j : ℕ) : Bool → Type 0 where
+  stood : (k : ℕ) → k < j → get_or l k 0 ≡ get_or l i 0 → Looked l i j true
+  fresh : Fresh l i j → Looked l i j false
+
+pub looked_none : (l : List ℕ) (i : ℕ) → Looked l i 0 false
+looked_none l i = fresh (λ k h. absurd (omega arith))
+
+pub looked_more : {l : List ℕ} {i j : ℕ} {same : Bool} → Looked l i j same
+    → Looked l i (j + 1) (same || eqb (get_or l j 0) (get_or l i 0))
+looked_more (stood k h e) = stood k (omega arith) e
+looked_more {l} {i} {j} (fresh none) = go (ℕ_discrete (get_or l j 0) (get_or l i 0))
+  where
+    go : Dec (get_or l j 0 ≡ get_or l i 0) → Looked l i (j + 1) (eqb (get_or l j 0) (get_or l i 0))
+    go (yes e) = rw (eq-eqb _ _ e) (stood j (omega arith) e)
+    go (no n) = rw (ne_eqb _ _ n) (fresh (λ k h e. by k h e (dec_lt k j)))
+      where
+        by : (k : ℕ) → k < j + 1 → get_or l k 0 ≡ get_or l i 0 → Dec (k < j) → ⊥
+        by k h e (yes early) = none k early e
+        by k h e (no late) = let last : k ≡ j = omega arith in n (rw last at e)
+
+pub looked_stood : (l : List ℕ) (i j : ℕ) → j ≤ i → i < length l → Looked l i j true → repeated l ≡ true
+looked_stood l i j o h (stood k b e) = repeats l k i (omega arith) h e

@@ -97,17 +97,19 @@ pub fn some_outside_field(degree: u32, s: &[u8]) -> bool
     outside_field(degree, bits)
 }
 
-// An entry stood earlier in the list.
+// An entry stood earlier in the list. All earlier ones are looked at, so that the inner loop vectorises.
 fn repeated(xs: &[u8]) -> bool
     ensures { result ≡ repeated xs.now }
 {
     let mut repeated = false;
     'points: for i in 0..xs.len() {
+        let mut same = false;
         for j in 0..i {
-            if xs[j] == xs[i] {
-                repeated = true;
-                break 'points;
-            }
+            same |= xs[j] == xs[i];
+        }
+        if same {
+            repeated = true;
+            break 'points;
         }
     }
     repeated

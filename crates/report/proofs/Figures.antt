@@ -3,7 +3,8 @@
 --   length-places, get_or_places    a list of a number for each place: how long it is, and what stands in it
 --   is_places        a list that has these numbers is that list; place_most, where the number is at most b, no more stands there
 --   ended_with, wrong_of    the counts of the marks by ending, and by column
---   count_most       a count is at most the length; counted, it is what an iterator counts
+--   count_most       a count is at most the length; count-drop, from a place on it is that of one entry and of the rest
+--   flag_is          the flag of a test is the test as a number
 --   wrong_flags_most a mark has at most as many wrong columns as flags
 --   no_marks         the figures of no marks
 --   Enterable n m    what the checks of entering leave of a mark for n columns
@@ -18,11 +19,10 @@ use native.Mathlib.Numerals.{add-one}
 use native.Mathlib.Decide.{ℕ_discrete, dec_lt}
 use native.Mathlib.Omega.{arith}
 use lib.Dec.{eqb}
-use lib.ListN.{length, get_or, set, replicate, length-set, length-replicate, get_or-replicate, get_or-eq_default}
-use lib.Seq.{ext_get_or, get_or-set_same, get_or-set_other}
+use lib.ListN.{length, get_or, set, drop, replicate, length-set, length-replicate, get_or-replicate, get_or-eq_default}
+use lib.Seq.{ext_get_or, get_or-set_same, get_or-set_other, drop-cons}
 use borrow.Author.Tests.{eq-eqb, ne_eqb}
-use Rattle.std.specs.List.{count_by}
-use Rattle.std.proofs.lemmas.List.Recursion.{is_count_by}
+use Rattle.std.specs.Int.{from_bool}
 use Rattle.patch.specs.Patch.{patch}
 use Rattle.patch.proofs.Laws.{length-patch, get_or-patch, get_or-patch_above}
 use Rattle.codes.specs.Code.{total, largest, flag, up_from}
@@ -71,14 +71,15 @@ unfolding count
 count_most p [] = omega arith
 count_most p (a ∷ l) = omega (arith, flag-most (p a), count_most p l)
 
--- as an iterator counts
-pub counted : {A : Type 0} (p : A → Bool) (l : List A) → count p l ≡ count_by p l
+pub count-drop : {A : Type 0} (p : A → Bool) (l : List A) (i : ℕ) (d : A) → i < length l
+    → count p (drop i l) ≡ flag (p (get_or l i d)) + count p (drop (i + 1) l)
 unfolding count
-counted p = is_count_by (count p) p refl (λ a l. one (p a) (count p l))
-  where
-    one : (b : Bool) (n : ℕ) → flag b + n ≡ cond b (1 + n) n
-    one true n = refl
-    one false n = zero-add n
+count-drop p l i d h = rw (add-one, drop-cons l i d h)
+
+-- the flag of a test, as a number
+pub flag_is : (b : Bool) → from_bool b ≡ flag b
+flag_is true = refl
+flag_is false = refl
 
 pub wrong_flags_most : (m : Mark) → wrong_in m ≤ length m.flags
 wrong_flags_most m = go (is_corrected m)

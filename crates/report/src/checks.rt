@@ -13,8 +13,7 @@ fn bad_mark(ending: usize, detail: usize, flags: &[u8]) -> bool
     ensures { result ≡ bad_mark (mark_of ending detail flags.now) }
 {
     4 < ending
-        || (ending == 1
-            && (refusal::some_outside(0, 2, flags) || counts::wrong_flags(flags) != detail))
+        || (ending == 1 && (counts::some_above(flags) || counts::wrong_flags(flags) != detail))
 }
 
 // The first check of entering a mark that applies.

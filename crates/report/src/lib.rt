@@ -90,16 +90,12 @@ impl Report {
         ensures enters { Enters self (mark_of ending detail flags.now) result }
         ensures made { Made result.next }
     {
-        if let Err(refused) = checks::enter_refusal(self, ending, detail, flags) {
-            return Handed {
-                outcome: Err(refused),
-                next: self,
-            };
-        }
-        Handed {
-            outcome: Ok(()),
-            next: self.add(ending, detail, flags),
-        }
+        let outcome = checks::enter_refusal(self, ending, detail, flags);
+        let next = match outcome {
+            Ok(()) => self.add(ending, detail, flags),
+            Err(_) => self,
+        };
+        Handed { outcome, next }
     }
 
     // Ranks two suppliers by their wrong columns per corrected mark, as exact fractions: fewer come first, one with no corrected mark

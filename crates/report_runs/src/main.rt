@@ -45,12 +45,12 @@ fn show(out: &mut impl Write, handed: Handed<Report>) -> io::Result<Report>
     Ok(report)
 }
 
-// Says who comes first.
-fn told(ranking: Ranking) -> &'static str {
+// Writes the line of a ranking.
+fn show_ranking(out: &mut impl Write, ranking: Ranking) -> io::Result<()> {
     match ranking {
-        Ranking::Equal => "equal",
-        Ranking::First => "first",
-        Ranking::Second => "second",
+        Ranking::Equal => writeln!(out, "equal"),
+        Ranking::First => writeln!(out, "first"),
+        Ranking::Second => writeln!(out, "second"),
     }
 }
 
@@ -90,7 +90,7 @@ fn main(rt: HostRuntime) -> io::Result<()> {
             0 => own = show(&mut out, Report::open(number(&frame, 1)))?,
             1 => own = show(&mut out, enter(own, &frame))?,
             _ => {
-                writeln!(out, "{}", told(own.rank(other)))?;
+                show_ranking(&mut out, own.rank(other))?;
                 mem::swap(&mut own, &mut other);
             }
         }

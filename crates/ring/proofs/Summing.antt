@@ -38,7 +38,7 @@ pub record Going (q : ℕ) (ys w v a : List ℕ) (j : ℕ) : Type 0 where
       → get_or a (k * (q * q) + x) 0 ≡ sum_to (λ i. powered q (get_or (sector q x) i 0) (get_or w (x * q + i) 0) (q - 1 - k)) q
 
 module _ {q : ℕ} (size : bad_size q ≡ false) where
-  row_room : (j : ℕ) → j < q → j * (q * q) + q * q ≤ q * q * q
+  pub row_room : (j : ℕ) → j < q → j * (q * q) + q * q ≤ q * q * q
   row_room j h = omega (arith, part_fits (q * q) q j h, (sides q q size refl).cells)
 
   pub cut_summed : {w a : List ℕ} → Summed q w a → Summed q w (take (q * q * q) a)

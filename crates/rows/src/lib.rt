@@ -12,6 +12,7 @@ ghost use Rattle.poly.proofs.Forms.{from_newton};
 ghost use Rattle.rows.specs.Working.Rows.{Inverting, Evaluating, inverted_at, constant_added, newton_values, evaluated_at};
 
 use field::Field;
+use field::bits::Reducer;
 
 pub mod lent;
 
@@ -45,7 +46,9 @@ pub fn store(w: &[u8], s: &mut [u8], at: usize)
     requires { at + length w.now ≤ length s.old }
     ensures { s.new ≡ lay at w.now s.old }
 {
-    s[at..at + w.len()].copy_from_slice(w);
+    for (i, x) in w.iter().enumerate() {
+        s[at + i] = *x;
+    }
 }
 
 // The inverses of the differences between the points behind the j-th and the j-th, in w from `at` on.
@@ -59,52 +62,52 @@ fn inverses(field: &Field, points: &[u8], j: usize, w: &mut [u8], at: usize)
 }
 
 // The values at the points xs, which are whole sixteens, of the polynomial with the Newton coefficients us at the nodes.
-fn evaluate_whole(field: &Field, xs: &[u8], nodes: &[u8], us: &[u8], s: &mut [u8], at: usize)
-    requires evaluating { Evaluating field.now.degree xs.now nodes.now us.now s.old at }
+fn evaluate_whole(reducer: Reducer, xs: &[u8], nodes: &[u8], us: &[u8], s: &mut [u8], at: usize)
+    requires evaluating { Evaluating reducer.degree xs.now nodes.now us.now s.old at }
     requires xs_len { length xs.now % 16 ≡ 0 }
-    ensures { s.new ≡ evaluated_at field.now.degree nodes.now us.now xs.now s.old at }
+    ensures { s.new ≡ evaluated_at reducer.degree nodes.now us.now xs.now s.old at }
 {
     clear(s, at, xs.len());
     for j in (1..us.len()).rev() {
-        lists::multiply(field, xs, nodes[j - 1], s, at, us[j]);
+        lists::multiply_by_bits(reducer, xs, nodes[j - 1], s, at, us[j]);
     }
     add_constant(us[0], s, at, xs.len());
 }
 
 // The same at no more than 96 points, in arrays of our own, so that they are whole sixteens.
-fn evaluate_some(field: &Field, xs: &[u8], nodes: &[u8], us: &[u8], s: &mut [u8], at: usize)
-    requires evaluating { Evaluating field.now.degree xs.now nodes.now us.now s.old at }
+fn evaluate_some(reducer: Reducer, xs: &[u8], nodes: &[u8], us: &[u8], s: &mut [u8], at: usize)
+    requires evaluating { Evaluating reducer.degree xs.now nodes.now us.now s.old at }
     requires xs_len_bound { length xs.now ≤ 96 }
-    ensures { s.new ≡ evaluated_at field.now.degree nodes.now us.now xs.now s.old at }
+    ensures { s.new ≡ evaluated_at reducer.degree nodes.now us.now xs.now s.old at }
 {
     let mut ys = [0u8; 96];
     let mut vs = [0u8; 96];
     store(xs, &mut ys, 0);
     let m = xs.len().next_multiple_of(16);
-    evaluate_whole(field, &ys[..m], nodes, us, &mut vs, 0);
+    evaluate_whole(reducer, &ys[..m], nodes, us, &mut vs, 0);
     store(&vs[..xs.len()], s, at);
 }
 
 // For the crates above: the values at the points xs of the polynomial with the Newton coefficients us at the nodes.
-pub fn evaluate(field: &Field, xs: &[u8], nodes: &[u8], us: &[u8], s: &mut [u8], at: usize)
-    requires all { All (IsSymbol field.now.degree) xs.now × All (IsSymbol field.now.degree) nodes.now
-        × All (IsSymbol field.now.degree) us.now }
+pub fn evaluate(reducer: Reducer, xs: &[u8], nodes: &[u8], us: &[u8], s: &mut [u8], at: usize)
+    requires all { All (IsSymbol reducer.degree) xs.now × All (IsSymbol reducer.degree) nodes.now
+        × All (IsSymbol reducer.degree) us.now }
     requires us_nonzero { (0 < length us.now) × (length us.now ≤ length nodes.now) × (at + length xs.now ≤ length s.old) }
-    ensures { s.new ≡ lay at (newton_values field.now.degree nodes.now us.now xs.now) s.old }
+    ensures { s.new ≡ lay at (newton_values reducer.degree nodes.now us.now xs.now) s.old }
 {
     for (i, some) in xs.chunks(96).enumerate() {
-        evaluate_some(field, some, nodes, us, s, at + 96 * i);
+        evaluate_some(reducer, some, nodes, us, s, at + 96 * i);
     }
 }
 
 // For the crates above: the values of the polynomial p at the points xs.
-pub fn values(field: &Field, xs: &[u8], p: &[u8], s: &mut [u8], at: usize)
-    requires all { All (IsSymbol field.now.degree) xs.now × All (IsSymbol field.now.degree) p.now }
+pub fn values(reducer: Reducer, xs: &[u8], p: &[u8], s: &mut [u8], at: usize)
+    requires all { All (IsSymbol reducer.degree) xs.now × All (IsSymbol reducer.degree) p.now }
     requires p_nonzero { (0 < length p.now) × (length p.now ≤ 96) × (at + length xs.now ≤ length s.old) }
-    ensures { s.new ≡ lay at (values_at (gf field.now.degree) xs.now p.now) s.old }
+    ensures { s.new ≡ lay at (values_at (gf reducer.degree) xs.now p.now) s.old }
 {
     let nodes = [0u8; 96];
-    evaluate(field, xs, &nodes, p, s, at);
+    evaluate(reducer, xs, &nodes, p, s, at);
 }
 
 // For the crates above: the coefficients of the polynomial with the Newton coefficients us at the nodes. They are worked out in place,

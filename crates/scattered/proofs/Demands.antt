@@ -81,7 +81,7 @@ module _ (q m τ : ℕ) (y : List ℕ) (lent : Buffers) (space : List ℕ) where
 
   module _ (l : Joint.Left) (h : Decodes q m τ y lent space l) where
     pub refused_exactly : IsRefused l ↔ ¬ (first (checks_of q m τ y lent space) ≡ 0)
-    refused_exactly = halves.refused_exactly (checks_of q m τ y lent space) lent space Ended in_table never l h
+    refused_exactly = halves.refused_exactly (checks_of q m τ y lent space) lent space Ended never l h
 
     pub refused_leaves : (r : Refusal) → l.ending ≡ Refused r
         → (number r ≡ first (checks_of q m τ y lent space)) × Mem (number r) (10 ∷ 11 ∷ 18 ∷ 5 ∷ 7 ∷ 19 ∷ [])
@@ -93,15 +93,15 @@ module _ (q m τ : ℕ) (y : List ℕ) (lent : Buffers) (space : List ℕ) where
         (is, rw is one, kept, kept-space)
 
     pub as_lent : ¬ IsCorrected l → l.buffers ≡ lent
-    as_lent = halves.as_lent (checks_of q m τ y lent space) lent space Ended in_table never l h others
+    as_lent = halves.as_lent (checks_of q m τ y lent space) lent space Ended never l h others
 
     pub space_cleared : ¬ IsRefused l
         → ((i : ℕ) → i < space_bytes → get_or l.space i 0 ≡ 0) × ((i : ℕ) → space_bytes ≤ i → get_or l.space i 0 ≡ get_or space i 0)
-    space_cleared = halves.space_cleared (checks_of q m τ y lent space) lent space Ended in_table never l h
+    space_cleared = halves.space_cleared (checks_of q m τ y lent space) lent space Ended never l h
 
     ended : (e : Ending) → l.ending ≡ e → ((r : Refusal) → ¬ (e ≡ Refused r))
         → (0 ≡ first (checks_of q m τ y lent space)) × Ended e l.buffers
-    ended = halves.ended_as (checks_of q m τ y lent space) lent space Ended in_table never l h
+    ended = halves.ended_as (checks_of q m τ y lent space) lent space Ended never l h
 
     pub corrected-word : (w : ℕ) → l.ending ≡ Corrected w → Mends q m τ y w l.buffers
     corrected-word w e = (ended (Corrected w) e (λ r x. apart (Corrected w) (Refused r) x (omega arith))).1

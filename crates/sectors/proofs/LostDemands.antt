@@ -108,22 +108,22 @@ module _ (L : List ℕ) (q m τ : ℕ) (y : List ℕ) (lent : Buffers) (space : 
 
   module _ (l : Joint.Left) (h : DecodesLost L q m τ y lent space l) where
     pub refused_exactly : IsRefused l ↔ ¬ (first checks ≡ 0)
-    refused_exactly = halves.refused_exactly checks lent space Ended in_table never l h
+    refused_exactly = halves.refused_exactly checks lent space Ended never l h
 
     pub refused_leaves : (r : Refusal) → l.ending ≡ Refused r
         → (number r ≡ first checks) × (1 ≤ number r) × (l.buffers ≡ lent) × (l.space ≡ space)
     refused_leaves = halves.refused_leaves checks lent space Ended in_table never l h
 
     pub as_lent : ¬ IsCorrected l → l.buffers ≡ lent
-    as_lent = halves.as_lent checks lent space Ended in_table never l h others
+    as_lent = halves.as_lent checks lent space Ended never l h others
 
     pub space_cleared : ¬ IsRefused l
         → ((i : ℕ) → i < space_bytes → get_or l.space i 0 ≡ 0) × ((i : ℕ) → space_bytes ≤ i → get_or l.space i 0 ≡ get_or space i 0)
-    space_cleared = halves.space_cleared checks lent space Ended in_table never l h
+    space_cleared = halves.space_cleared checks lent space Ended never l h
 
     ended_as : (e : Ending) → l.ending ≡ e → ((r : Refusal) → ¬ (e ≡ Refused r)) → Through e l.buffers
     ended_as e i n =
-        let (none, ends) = halves.ended_as checks lent space Ended in_table never l h e i n in
+        let (none, ends) = halves.ended_as checks lent space Ended never l h e i n in
         through_array none ends
 
     corrected : (w : ℕ) → l.ending ≡ Corrected w → Through (Corrected w) l.buffers

@@ -110,8 +110,7 @@ module _ (L : List ℕ) (q m : ℕ) (lent : Buffers) (space : List ℕ) where
   pub within_joint : (τ : ℕ) (y : List ℕ) (l : Left) → DecodesLost L q m τ y lent space l → ¬ IsRefused l
       → τ ≤ joint_limit (core c L)
   within_joint τ y l h not = (passed L q m τ y lent space
-      (halves.ended_as (checks τ y) lent space (EndsAs τ y)
-      (lost.in_table L q m τ y lent space) (λ r b s. s.ends) l h l.ending refl (λ r e. not (r, e))).0).remain.limit
+      (halves.ended_as (checks τ y) lent space (EndsAs τ y) (λ r b s. s.ends) l h l.ending refl (λ r e. not (r, e))).0).remain.limit
 
 -- nothing is lost
 module _ (q m : ℕ) (lent : Buffers) (space : List ℕ) where

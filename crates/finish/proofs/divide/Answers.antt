@@ -21,7 +21,7 @@ module _ (c : After-flag_zeros-count) where
   known : Flagged code E c.values.new.s c.flag_zeros-count.new.flags
   known =
       let few = c.requires.ready.counts.most_columns in
-      flagged c.requires.ready.proper E (replicate 96 0) c.args.flags.now c.values.ensures
+      flagged c.requires.ready.proper E (replicate 96 0) c.args.flags.now (rw c.reducer.ensures at c.values.ensures)
       c.flag_zeros-count.ensures.1 (omega (arith, few)) (omega (arith, few, c.requires.array_len.1))
 
   counted : c.flag_zeros-count.result ≡ root_count code E

@@ -92,9 +92,13 @@ evaluate-requires-clause-all c =
     let r = (goal.at.evaluate-requires-clause-all c).After-reduce in
     let k : ℕ = length (gs r) in
     let kept = all_take (IsSymbol (d r)) k (right (fs r) (ys r)) (all_right (IsSymbol (d r)) (fs r) (ys r) c.requires.row_len.3) in
-    (c.requires.points.1, c.requires.points.0.symbols, rw (is r) (symbols_reduce (gf (d r)) (degree_field r) k (gs r) _ kept))
+    rw c.reducer.ensures (
+      c.requires.points.1,
+      c.requires.points.0.symbols,
+      rw (is r) (symbols_reduce (gf (d r)) (degree_field r) k (gs r) _ kept),
+    )
 
 pub returns : goal.returns
 returns c =
     c.merge.ensures
-    ∙ ap (λ (v : List ℕ). lay c.args.at v c.args.s.now) (merged (goal.at.returns c).After-reduce c.evaluate.ensures)
+    ∙ ap (λ (v : List ℕ). lay c.args.at v c.args.s.now) (merged (goal.at.returns c).After-reduce (rw c.reducer.ensures at c.evaluate.ensures))

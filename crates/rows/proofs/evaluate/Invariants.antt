@@ -11,5 +11,5 @@ abbrev pub invariant-loop-i : goal.invariant-loop-i
 invariant-loop-i l =
     let chunks = enumerate_source l.i-iterator in
     (chunks_size chunks ≡ 96)
-    × Evaluated (newton_value_lem (gf l.field.degree) (length l.us) l.nodes l.us) l.xs l.at l.fn.s (96 * enumerate_count l.i-iterator)
+    × Evaluated (newton_value_lem (gf l.reducer.degree) (length l.us) l.nodes l.us) l.xs l.at l.fn.s (96 * enumerate_count l.i-iterator)
     (chunks_rest chunks) l.s

@@ -1,10 +1,15 @@
--- The part is the row.
-use Rattle.std.proofs.Common.{◌≡◌, ◌+◌, ◌-◌, arith, length, refl}
-use Rattle.rows.proofs.Written.{part_is_lay}
+-- `store` stores the row, one number after the other.
+use Rattle.std.proofs.Common.{refl}
+use Rattle.patch.specs.Parts.{lay}
+use Rattle.patch.proofs.Loops.{filling, turn, filled}
 use Rattle.rows.proofs.store.Goals as goal
 
+pub loop-i-init : goal.loop-i-init
+loop-i-init c = filling
+
+pub loop-i-preserved : goal.loop-i-preserved
+loop-i-preserved c = turn c.loop-i.invariant c.loop-i-test.true refl
+
 pub returns : goal.returns
-returns c =
-    let a = c.args in
-    let e : a.at + length a.w.now - a.at ≡ length a.w.now = omega arith in
-    rw (c.copy_from_slice.ensures.after, e) (part_is_lay a.at (length a.w.now) a.w.now a.s.now refl c.requires)
+unfolding lay
+returns c = filled c.loop-i.invariant c.loop-i-test.false

@@ -10,8 +10,8 @@ use Rattle.rows.proofs.values.Goals as goal
 pub returns : goal.returns
 returns c =
     let a = c.args in
-    let A = gf a.field.now.degree in
-    let 𝓕 = field a.field.now.degree a.field.now.degree_value in
+    let A = gf a.reducer.degree in
+    let 𝓕 = field a.reducer.degree a.reducer.degree_value in
     c.evaluate.ensures
     ∙ ap (λ (v : List ℕ). lay a.at v a.s.now)
     (plain_values A 𝓕 (replicate 96 0) a.p.now a.xs.now (zeros A 𝓕 96) c.requires.p_nonzero.1)

@@ -12,5 +12,5 @@ returns c =
     let p = c.requires in
     let size = (encoded_array p.proper p.message).count in
     copied_lay (encoded (code_of a.degree a.points.now a.lengths.now) a.message.now) (replicate 384 0) a.array.now
-    (rw (c.new-field.ensures, take_copied a.points.now (replicate 96 0) c.copy.ensures) at c.write_rows.ensures)
+    (rw (c.new-reducer.ensures, take_copied a.points.now (replicate 96 0) c.copy.ensures) at c.write_rows.ensures)
     (size ∙ sym p.array) (omega (arith, size, p.counts.cells)) c.copy-2.ensures

@@ -9,7 +9,7 @@ use Rattle.mark.proofs.encoding.write_rows.Goals as goal
 
 -- where a row's length is read: the row, and its places
 row : (c : After-from-k) → let s = c.args in let own = c.loop-k in
-    Place (code_of s.field.now.degree s.points.now s.lengths.now) own.k-index own.from own.at c.from-k.result
+    Place (code_of s.reducer.degree s.points.now s.lengths.now) own.k-index own.from own.at c.from-k.result
 row c = record {
   counts = c.requires.made.counts;
   before = c.loop-k.invariant.places;

@@ -1,10 +1,7 @@
 -- `Report::rank` compares the two fractions by their cross products.
-use Rattle.std.proofs.Common.{◌*◌, ◌≤◌, arith}
+use Rattle.std.proofs.Common.{arith}
 use native.Mathlib.Nat.{mul-le-mul}
-use Rattle.report.specs.Ranking.{corrected}
-use Rattle.report.specs.declared.Ranking.TheVariants.{First}
 use Rattle.report.proofs.History.{corrected-most, wrong_most}
-use Rattle.report.proofs.Order.{ranks_swapped, first_exactly, equal_exactly, comes_last, two_such}
 use Rattle.report.proofs.Report.rank.Goals as goal
 
 pub overflow_mul-first : goal.overflow_mul-first

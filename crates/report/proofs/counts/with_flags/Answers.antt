@@ -1,18 +1,14 @@
 -- `with_flags` adds 1 in the place of each flag of 1.
-use Rattle.std.proofs.Common.{◌≡◌, ◌+◌, Bool, true, false, eqb, ap₂, arith, get_or, refl, ◌∙◌}
+use Rattle.std.proofs.Common.{◌≡◌, ◌+◌, eqb, ap₂, arith, get_or, ◌∙◌}
 use native.Mathlib.Nat.{zero-add}
-use Rattle.std.specs.Int.{from_bool}
 use Rattle.patch.proofs.Laws.{patch_front}
 use Rattle.patch.proofs.Loops.{filling, unfilled, filled}
 use Rattle.codes.specs.Code.{flag}
 use Rattle.codes.proofs.Flags.{flag-most}
 use Rattle.report.specs.Working.{flagged, with_flags}
+use Rattle.report.proofs.Figures.{flag_is}
 use Rattle.report.proofs.counts.with_flags.Goals.{After-from}
 use Rattle.report.proofs.counts.with_flags.Goals as goal
-
-flag_is : (b : Bool) → from_bool b ≡ flag b
-flag_is true = refl
-flag_is false = refl
 
 module _ (c : After-from) where
   -- what stands at the flag's place is what stood there
