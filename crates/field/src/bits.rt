@@ -42,7 +42,7 @@ pub(crate) fn low_bits(degree: u32) -> u8
 // doubling takes off.
 #[derive(Clone, Copy)]
 pub struct Reducer {
-    degree: u32,
+    pub degree: u32,
     half: u8,
     low: u8,
     ghost degree_value: { bad_degree degree ≡ false },

@@ -12,7 +12,8 @@
 --   under p Ws           the sets Ws behind the columns p
 --   Choosing D z W i more count    what trying all sets that go on with so many more columns from column i on asks
 --   Listing D z τ        what trying all sets of at most τ columns asks
-use Rattle.std.specs.Prelude.{◌≡◌, Bool, true, false, cond, ◌↔◌, List, [], ◌∷◌, ◌++◌, map, ℕ, suc, ◌+◌, ◌-◌, ◌*◌, ◌^◌, ◌≤◌, ◌<◌, leb, length, take, drop, replicate}
+use Rattle.std.specs.Prelude.{◌≡◌, Bool, true, false, cond, ◌↔◌, List, [], ◌∷◌, ◌++◌, map, length, take, drop, replicate}
+use Rattle.std.specs.Prelude.{ℕ, suc, ◌+◌, ◌-◌, ◌*◌, ◌^◌, ◌≤◌, ◌<◌, leb}
 use Rattle.patch.specs.Parts.{lay}
 use Rattle.poly.specs.Poly.{All}
 use Rattle.codes.specs.Code.{Code, columns, total, largest, IsArray, CodeArray, flags_of}

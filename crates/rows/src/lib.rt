@@ -41,7 +41,8 @@ fn add_constant(c: u8, s: &mut [u8], at: usize, n: usize)
     }
 }
 
-// For the crates above: stores the row w in s from `at` on.
+// For the crates above: stores the row w in s from `at` on. A loop, since of
+// `copy_from_slice` the compiler may make `memmove`, which a host need not have.
 pub fn store(w: &[u8], s: &mut [u8], at: usize)
     requires { at + length w.now ≤ length s.old }
     ensures { s.new ≡ lay at w.now s.old }
